@@ -42,13 +42,20 @@ void *rattle_alloc(size_t size);
 void *rattle_realloc(void *at, size_t size);
 void rattle_dealloc(void *at);
 static told done(void) { return (told){0, false}; }
-uint32_t wakhurmi_c_open(uint32_t most, uint32_t locks, handle *workers, size_t count) {
-    (void)most, (void)locks;
+uint32_t wakhurmi_c_open(uint32_t most, uint32_t locks, bool all, handle *workers, size_t count) {
+    (void)most, (void)locks, (void)all;
     for (size_t worker = 0; worker < count; worker++) workers[worker] = (handle){rattle_realloc(rattle_alloc(8), 16), true};
     return 0;
 }
 told wakhurmi_c_take(handle *worker, const uint32_t *locks, size_t count) { (void)worker, (void)locks, (void)count; return done(); }
 told wakhurmi_c_try_take(handle *worker, const uint32_t *locks, size_t count) { return wakhurmi_c_take(worker, locks, count); }
+told wakhurmi_c_take_uses(handle *worker, const uint32_t *maxima, size_t of, const uint32_t *services, size_t count) {
+    (void)maxima, (void)of;
+    return wakhurmi_c_take(worker, services, count);
+}
+told wakhurmi_c_try_take_uses(handle *worker, const uint32_t *maxima, size_t of, const uint32_t *services, size_t count) {
+    return wakhurmi_c_take_uses(worker, maxima, of, services, count);
+}
 told wakhurmi_c_hand_back(handle *worker) { (void)worker; return done(); }
 told wakhurmi_c_enter(handle *worker) { (void)worker; return done(); }
 told wakhurmi_c_leave(handle *worker) { (void)worker; return done(); }
@@ -87,7 +94,10 @@ uint32_t wakhurmi_c_plan_action(handle *plan, uint32_t task, uint32_t retention,
     return 0;
 }
 uint32_t wakhurmi_c_close_plan(handle *plan) { rattle_dealloc(plan->at); return 0; }
-uint32_t wakhurmi_c_open_plan(handle *plan, uint32_t most, handle *workers, size_t count) { (void)plan; return wakhurmi_c_open(most, 0, workers, count); }
+uint32_t wakhurmi_c_open_plan(handle *plan, uint32_t most, handle *workers, size_t count) {
+    (void)plan;
+    return wakhurmi_c_open(most, 0, false, workers, count);
+}
 plan_told wakhurmi_c_next(handle *worker, bool sleeps, void *work) { (void)worker, (void)sleeps, (void)work; return told_nobody(); }
 plan_told wakhurmi_c_done(handle *worker, bool sleeps, bool passed, uint64_t number) {
     (void)worker, (void)sleeps, (void)passed, (void)number;
@@ -300,14 +310,14 @@ class InterfaceTests(unittest.TestCase):
     def bench_program(self, name: str, *more: str) -> str:
         return self.program(TOP / f"bench/programs/{name}/{name}.c", *more)
 
-    def assert_replayed(self, history: str) -> str:
-        replayed = self.said_by([str(IN_C / "replay.py")], input=history)
+    def assert_replayed(self, history: str, *words: str) -> str:
+        replayed = self.said_by([str(IN_C / "replay.py"), *words], input=history)
         self.assertRegex(replayed, r"^lawful [0-9]+\n$")
         return replayed
 
-    def assert_lawful(self, history: str) -> None:
+    def assert_lawful(self, history: str, *words: str) -> None:
         """By the replay, and by the program that the gate has built."""
-        replayed = self.assert_replayed(history)
+        replayed = self.assert_replayed(history, *words)
         if LEASES.exists():
             self.assertEqual(self.said_by([str(LEASES), "check", "plan.toml"], input=history, cwd=IN_C), replayed)
 
@@ -329,6 +339,14 @@ class InterfaceTests(unittest.TestCase):
     def test_threads_have_leases_and_locks_as_promised(self) -> None:
         self.assert_lawful(self.said_by([self.bench_program("c_rounds"), "check", "4", "5000"]))
         self.assert_lawful(self.said_by([self.program(IN_C / "eight.c")]))
+
+    def test_all_projects_without_a_plan(self) -> None:
+        program = self.bench_program("c_options")
+        self.assertEqual(self.said_by([program, "calls"]), "")
+        self.assert_lawful(self.said_by([program, "all", "8", "3000"]), "--all-projects")
+
+    def test_uses_of_shared_services(self) -> None:
+        self.assert_replayed(self.said_by([self.bench_program("c_options"), "uses", "8", "3000"]))
 
     def test_as_many_workers_as_may_be(self) -> None:
         """Their histories are beyond what the program reads."""

@@ -11,6 +11,8 @@ The archive is made by c/build.sh, which needs the command rt and proves crates/
   stand behind each other are replayed and checked. bench/programs/c_refused refuses memory to each allocation of that;
 * bench/programs/c_rounds checks four threads over 400,000 rounds, while a fifth asks for the leases: never more at work than may be, one
   owner a lock; the history is replayed and checked;
+* bench/programs/c_options opens services with the all-projects lock, and with the maxima of shared services; eight threads take them, never beside each
+  other's and never more than may be, and their histories are replayed;
 * bench/programs/c_many has 256 workers that take locks of their own, or share eight locks and fewer leases; their histories are replayed;
 * bench/programs/c_plan runs plans that are made by numbers on 1 to 32 threads, compares each outcome with a reckoning of its own, and stops some;
   histories are replayed by examples/plan-in-c/replay.py. bench/programs/c_plan_refused refuses memory to each allocation of a plan;
@@ -44,7 +46,7 @@ import measure
 TOP = measure.TOP
 EXAMPLE, PLANS = TOP / "examples/embedding-in-c", TOP / "examples/plan-in-c"
 LEASES = pathlib.Path(sys.argv[1]).resolve() if len(sys.argv) > 1 else TOP / "out/leases"
-NAMES = ("c_rounds", "c_calls", "c_cancel", "c_history", "c_refused", "c_turns", "c_taking", "c_many", "c_plan", "c_plan_refused")
+NAMES = ("c_rounds", "c_options", "c_calls", "c_cancel", "c_history", "c_refused", "c_turns", "c_taking", "c_many", "c_plan", "c_plan_refused")
 PROGRAMS = [TOP / f"bench/programs/{name}/{name}.c" for name in NAMES] + [EXAMPLE / "eight.c"]
 # Programs that refuse memory have calls of these from the archive come to functions of their own.
 WRAPS = [f"-Wl,--wrap={name}" for name in ("malloc", "realloc", "calloc", "aligned_alloc")]
@@ -77,8 +79,9 @@ SUPPRESSED = """{
 }
 """
 # What is measured elsewhere, and only tried here.
-TRIED = ("c_turns leaving 8 1 20000 1", "c_turns service 8 2 1000000 1", "c_turns several 5 4 1500000 1", "c_taking memory 8 {rounds} 1000",
-         "c_taking kept 8 {rounds} 1000", "c_taking waits 8 1 1000", "c_taking hold 1000")
+TRIED = ("c_turns leaving 8 1 20000 1", "c_turns service 8 2 1000000 1", "c_turns several 5 4 1500000 1", "c_turns all 5 4 1500000 1",
+         "c_turns uses 5 4 1500000 1", "c_taking memory 8 {rounds} 1000", "c_taking kept 8 {rounds} 1000", "c_taking waits 8 1 1000",
+         "c_taking hold 1000")
 
 
 def call(words: list[str], **more: object) -> str:
@@ -102,13 +105,13 @@ def build(folder: pathlib.Path, name: str, *flags: str) -> pathlib.Path:
     return made
 
 
-def replayed_of(history: str) -> str:
-    return call([str(EXAMPLE / "replay.py")], input=history).strip()
+def replayed_of(history: str, *words: str) -> str:
+    return call([str(EXAMPLE / "replay.py"), *words], input=history).strip()
 
 
-def judged(history: str) -> str:
+def judged(history: str, *words: str) -> str:
     """What the replay and `leases check` say of a history. Where one of them refuses it, the bench ends."""
-    replayed = replayed_of(history)
+    replayed = replayed_of(history, *words)
     if not os.access(LEASES, os.X_OK):
         return f"replayed: {replayed}; leases check: passed over, there is no {LEASES.name}"
     checked = call([str(LEASES), "check", "plan.toml"], input=history, cwd=EXAMPLE).strip()
@@ -128,6 +131,7 @@ def check_plans(program: pathlib.Path, rounds: int, tool: list[str], what: str) 
 def check(made: pathlib.Path, rounds: int, cancelled: int, tool: list[str], what: str) -> None:
     call([*tool, str(made / "c_calls")], env=SETTINGS)
     call([*tool, str(made / "c_history"), "calls"], env=SETTINGS)
+    call([*tool, str(made / "c_options"), "calls"], env=SETTINGS)
     call([*tool, str(made / "c_refused")], env=SETTINGS)
     call([*tool, str(made / "c_plan"), "calls"], env=SETTINGS)
     call([*tool, str(made / "c_plan_refused")], env=SETTINGS)
@@ -138,6 +142,10 @@ def check(made: pathlib.Path, rounds: int, cancelled: int, tool: list[str], what
     print(f"{what}: {cancelled // 10} threads that took the history were cancelled: {judged(history)}", flush=True)
     history = call([*tool, str(made / "c_cancel"), str(cancelled)], env=SETTINGS)
     print(f"{what}: {cancelled} threads were cancelled: {judged(history)}", flush=True)
+    history = call([*tool, str(made / "c_options"), "all", "8", str(rounds // 10)], env=SETTINGS)
+    print(f"{what}: eight threads with the all-projects lock: {judged(history, '--all-projects')}", flush=True)
+    history = call([*tool, str(made / "c_options"), "uses", "8", str(rounds // 10)], env=SETTINGS)
+    print(f"{what}: eight threads with uses of shared services: {replayed_of(history)}", flush=True)
     meetings = [["meeting", "256", leases, str(rounds // 1_000)] for leases in ("60", "4")]
     for words in (["apart", "256", str(rounds // 250)], *meetings):
         history = call([*tool, str(made / "c_many"), *words], env=SETTINGS)

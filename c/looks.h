@@ -11,16 +11,18 @@ SELDOM use claim_whatever(slot *wanted, use after) {
     return IN_CALL;
 }
 
-typedef enum { TAKE, TRY_TAKE, HAND_BACK, ENTER, LEAVE } deed;
+typedef enum { TAKE, TRY_TAKE, TAKE_USES, TRY_TAKE_USES, HAND_BACK, ENTER, LEAVE } deed;
 
 typedef struct {
     deed what;
-    const uint32_t *locks;
+    const uint32_t *locks; /* Or services, whose uses are taken. */
     size_t count;
     moment deadline;
 } request;
 
 IN_EACH_CALL bool gives_back(deed what) { return what == HAND_BACK || what == ENTER; }
+IN_EACH_CALL bool takes_locks(deed what) { return what == TAKE || what == TRY_TAKE; }
+IN_EACH_CALL bool takes_uses(deed what) { return what == TAKE_USES || what == TRY_TAKE_USES; }
 
 /* What a worker's use is before most calls of a deed, and after one that did it. */
 IN_EACH_CALL use before_most(deed what) { return what == LEAVE ? IN_SECTION : gives_back(what) ? HOLDING : EMPTY; }
@@ -32,6 +34,8 @@ IN_EACH_CALL told look_once(slot *own, deed what, const uint32_t *locks, size_t 
     switch (what) {
     case TAKE: said = wakhurmi_c_take(&own->held, locks, count); break;
     case TRY_TAKE: said = wakhurmi_c_try_take(&own->held, locks, count); break;
+    case TAKE_USES: said = wakhurmi_c_take_uses(&own->held, own->maxima, own->services, locks, count); break;
+    case TRY_TAKE_USES: said = wakhurmi_c_try_take_uses(&own->held, own->maxima, own->services, locks, count); break;
     case HAND_BACK: said = wakhurmi_c_hand_back(&own->held); break;
     case ENTER: said = wakhurmi_c_enter(&own->held); break;
     default: said = wakhurmi_c_leave(&own->held); break;

@@ -2,8 +2,9 @@
  *
  * Whoever looks first gets what is free, which is fast. But who sleeps looks late, so a worker that takes again and again could keep it
  * waiting for ever. A call that has slept for a while, and was overtaken meanwhile, is queued. From then on a later call is kept back, and
- * sleeps without a look, where both take the same lock, or where the queued one found all leases out. So what becomes free comes to the one
- * that is queued, also where that takes several locks which are never free at once by chance.
+ * sleeps without a look, where locks that they take conflict, or where the queued one found all leases out. Locks conflict where they are the same, or
+ * one is the all-projects lock. So what becomes free comes to the one that is queued, also where that takes several locks which are never free at once
+ * by chance.
  *
  * Two kinds of calls aren't kept back. That of a worker that has a lease or locks: the queued one may wait for just these. And one that
  * was kept back for KEPT_BACK in all: a worker may have a lock, and wait outside of this service for the one that is kept back.
@@ -18,6 +19,10 @@
 
 #define MAX_WORKERS 256
 #define MAX_LOCKS 65536
+#define MAX_SERVICES 64
+#define MAX_USES 32
+/* In place of the all-projects lock's number, where no lock is that. */
+#define NO_LOCK UINT32_MAX
 /* A call is queued once it has slept so many nanoseconds, and so often something was let go that it didn't get. Where locks are had for
  * microseconds, to hand one over to a thread that sleeps takes longer than the work: so few are. Where many sleep, those that are woken and look in
  * vain cost more than that: there a call is queued as soon as it was overtaken so often. */
@@ -27,10 +32,16 @@
 /* In nanoseconds. */
 #define KEPT_BACK 100000000
 
-/* Locks by marks, of which each lock has one: lists without a mark in common have no lock in common. */
+/* Locks by marks, of which each lock has one, and the all-projects lock has all: lists without a mark in common have no locks that conflict. */
 typedef uint64_t lock_marks;
 
-static inline lock_marks marks_of(const uint32_t *locks, size_t count) {
+#define ALL_MARKS UINT64_MAX
+
+/* Whether one of some locks, which strictly rise, is the all-projects lock. That is the last of a service's locks. */
+static inline bool has_all(const uint32_t *locks, size_t count, uint32_t all) { return count > 0 && locks[count - 1] == all; }
+
+static inline lock_marks marks_of(const uint32_t *locks, size_t count, uint32_t all) {
+    if (has_all(locks, count, all)) return ALL_MARKS;
     lock_marks marks = 0;
     for (size_t at = 0; at < count; at++) marks |= (lock_marks)1 << (locks[at] % 64);
     return marks;
@@ -39,9 +50,10 @@ static inline lock_marks marks_of(const uint32_t *locks, size_t count) {
 /* A call that sleeps. */
 typedef struct {
     uint64_t number; /* The lower came earlier. */
-    const uint32_t *locks; /* Those that it takes, which strictly rise. */
+    const uint32_t *locks; /* Those that it takes, or the services whose uses it takes. They strictly rise. */
     size_t count;
     lock_marks marks;
+    bool takes_all;  /* One of them is the all-projects lock. */
     bool found_none; /* At its last look all leases were out. */
 } arrival;
 
@@ -50,9 +62,10 @@ typedef struct {
     const arrival **calls; /* Those that are queued, in the order in which they came. There is room for one of each worker. */
 } queue;
 
-/* Whether two lists that strictly rise have a lock in common. */
-static inline bool share_a_lock(const arrival *one, const arrival *other) {
+/* Whether locks of two lists conflict. Both strictly rise. */
+static inline bool have_a_conflict(const arrival *one, const arrival *other) {
     if ((one->marks & other->marks) == 0) return false;
+    if (one->takes_all || other->takes_all) return true;
     for (size_t i = 0, k = 0; i < one->count && k < other->count;) {
         if (one->locks[i] == other->locks[k]) return true;
         if (one->locks[i] < other->locks[k]) {
@@ -67,7 +80,7 @@ static inline bool share_a_lock(const arrival *one, const arrival *other) {
 /* Whether a call has to let one go first that came earlier. */
 static inline bool has_to_let_go_first(const queue *all, const arrival *call) {
     for (uint32_t at = 0; at < all->length && all->calls[at]->number < call->number; at++) {
-        if (all->calls[at]->found_none || share_a_lock(all->calls[at], call)) return true;
+        if (all->calls[at]->found_none || have_a_conflict(all->calls[at], call)) return true;
     }
     return false;
 }

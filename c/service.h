@@ -44,6 +44,9 @@ struct wakhurmi_service {
     atomic_bool stopped;
     bool is_planned; /* Its handles are those of a plan's workers. */
     uint32_t count, max_leases, locks;
+    uint32_t all; /* The all-projects lock, or NO_LOCK. */
+    uint32_t services; /* How many shared services there are. */
+    uint32_t *maxima; /* Theirs, in place of locks, or null. */
     unsigned forks;
     atomic_uint usual; /* `forks`, with those of the notes below that hold. */
     atomic_ullong arrivals;
@@ -60,11 +63,13 @@ struct wakhurmi_service {
     slot workers[]; /* As many as `count`. */
 };
 
-/* Notes: a call is queued; somebody asks by the handle of any worker, and asked in vain; and one that is never taken away. */
+/* Notes: a call is queued; somebody asks by the handle of any worker, and asked in vain; and two that are never taken away. */
 #define SOMEBODY_QUEUED (1u << 31)
 #define SOMEBODY_ASKS (1u << 30)
 /* It is a service over a plan: so no call of it is as most are. */
 #define OVER_A_PLAN (1u << 29)
+/* The same of a service with shared services. */
+#define WITH_MAXIMA (1u << 28)
 
 /* `sleepers` says in one comparison what a call that gave something back has to do yet. Each call that sleeps adds SLEEPER, and a service that
  * counts its entries begins with COUNTS_ENTRIES. So it is 0 where there is nothing to do, above 0 where somebody sleeps, and below 0 where

@@ -1,9 +1,9 @@
 /* Sleeps: who sleeps, what each waits for, and who is woken by what. A part of wakhurmi.c.
  *
  * A call that sleeps stands in a list, and says there what it waits for. It begins a look under the mutex, and from then on all is news for it. If
- * it looks in vain, then one of the locks that it takes was another's, or all leases were out. Whoever gives back a lease and locks goes through
- * the list, and wakes those that take one of the locks, by marks, and those that may wait for a lease. A call that is kept back didn't look. It is
- * woken when it isn't kept back any more, by who leaves the queue.
+ * it looks in vain, then another owned a lock that conflicts with one that it takes, or all leases were out. Whoever gives back a lease and locks goes
+ * through the list, and wakes those that take a lock which conflicts with one of these, by marks, and those that may wait for a lease. A call that is
+ * kept back didn't look. It is woken when it isn't kept back any more, by who leaves the queue.
  *
  * Whether a lease may be all that a call waits for it asks behind its look. Then all leases are out, or they aren't any more. In the second case
  * one may have been given back since the look, by a call whose news come later. Such a call is still inside of this library, as it tells its
@@ -83,12 +83,12 @@ static bool begin_look(wakhurmi_service *service, sleeper *own, bool must_look) 
 }
 
 /* Has calls go on that aren't kept back any more. Those that take what one of these has just taken wait for its locks from now on: NULL says that it
- * took none. The mutex is locked. */
+ * took none. Of a shared service another use may be had, so those look. The mutex is locked. */
 static void let_kept_go_on(wakhurmi_service *service, const arrival *taker) {
     for (uint32_t at = 0; at < service->asleep_count; at++) {
         sleeper *found = service->asleep[at];
         if (!found->is_kept_back || has_to_let_go_first(&service->queue, &found->call)) continue;
-        if (taker == NULL || !share_a_lock(taker, &found->call)) {
+        if (taker == NULL || service->maxima != NULL || !have_a_conflict(taker, &found->call)) {
             tell_news(found);
         } else {
             found->is_kept_back = found->awaits_lease = false;
@@ -156,16 +156,25 @@ static size_t note_parked(handle *own, lock_list *parked) {
     return count;
 }
 
-/* A call that is about to sleep. The locks that a leave takes strictly rise, as an enter parks them so. */
+static uint32_t service_of(const uint32_t *maxima, uint32_t lock) {
+    uint32_t service = 0;
+    for (; lock >= maxima[service]; service++) lock -= maxima[service];
+    return service;
+}
+
+/* A call that is about to sleep. The locks that a leave takes strictly rise, as an enter parks them so, and so do the services whose they are:
+ * it has one of each at most. */
 static arrival arrive(wakhurmi_service *service, slot *held, request asked, lock_list *parked) {
     arrival call = {.number = atomic_fetch_add(&service->arrivals, 1), .locks = asked.locks, .count = asked.count};
     if (asked.what == LEAVE) {
         go_in();
         call.count = note_parked(&held->held, parked);
         go_out();
+        for (size_t at = 0; service->maxima != NULL && at < call.count; at++) parked->locks[at] = service_of(service->maxima, parked->locks[at]);
         call.locks = parked->locks;
     }
-    call.marks = marks_of(call.locks, call.count);
+    call.marks = marks_of(call.locks, call.count, service->all);
+    call.takes_all = has_all(call.locks, call.count, service->all);
     return call;
 }
 

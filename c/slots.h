@@ -33,9 +33,11 @@ typedef struct {
 /* Answers of the proved library that no caller of this one sees. */
 enum { REFUSED = 2, AGAIN = 4 };
 
-uint32_t wakhurmi_c_open(uint32_t max_leases, uint32_t locks, handle *workers, size_t count);
+uint32_t wakhurmi_c_open(uint32_t max_leases, uint32_t locks, bool all_projects, handle *workers, size_t count);
 told wakhurmi_c_take(handle *worker, const uint32_t *locks, size_t count);
 told wakhurmi_c_try_take(handle *worker, const uint32_t *locks, size_t count);
+told wakhurmi_c_take_uses(handle *worker, const uint32_t *maxima, size_t of, const uint32_t *services, size_t count);
+told wakhurmi_c_try_take_uses(handle *worker, const uint32_t *maxima, size_t of, const uint32_t *services, size_t count);
 told wakhurmi_c_hand_back(handle *worker);
 told wakhurmi_c_enter(handle *worker);
 told wakhurmi_c_leave(handle *worker);
@@ -72,7 +74,9 @@ typedef struct {
     _Alignas(64) _Atomic(use) use;
     handle held;
     int64_t until_counted; /* How many entries the worker makes until they are counted (history.c). */
-    uint64_t marks; /* Of the locks that the worker has, or has parked (queue.h). */
+    uint64_t marks; /* Of the locks or services that the worker has, or has parked (queue.h). */
+    const uint32_t *maxima; /* Of the shared services, or null. */
+    uint32_t services; /* How many there are. */
 } slot;
 
 /* With WAKHURMI_ONE_AT_A_TIME each call of the proved library is made under a mutex, and each use is changed by an exchange, so that tools

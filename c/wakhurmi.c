@@ -87,10 +87,10 @@ static int entries_to_note(deed what, use before, uint32_t answer) {
     return gives_back(what) ? 2 : before == HOLDING ? 1 : 0;
 }
 
-/* Notes the locks that a worker has taken, beside those that it had. */
-static void note_marks(slot *held, request asked, use before) {
-    if (asked.what != TAKE && asked.what != TRY_TAKE) return;
-    held->marks = (before == HOLDING ? held->marks : 0) | marks_of(asked.locks, asked.count);
+/* Notes the locks or uses that a worker has taken, beside those that it had. */
+static void note_marks(const wakhurmi_service *service, slot *held, request asked, use before) {
+    if (asked.what == LEAVE || gives_back(asked.what)) return;
+    held->marks = (before == HOLDING ? held->marks : 0) | marks_of(asked.locks, asked.count, service->all);
 }
 
 /* Wakes those that may go on by what a worker's call has done. */
@@ -108,20 +108,21 @@ SELDOM wakhurmi_answer complete(wakhurmi_service *service, uint32_t worker, requ
     slot *held = service->workers + worker;
     if (said.answer == AGAIN) said = look_again(held, asked);
     if (said.answer == WAKHURMI_BUSY) said = sleep_for(service, worker, asked, before);
-    if (said.answer == WAKHURMI_OK) note_marks(held, asked, before);
+    if (said.answer == WAKHURMI_OK) note_marks(service, held, asked, before);
     if (said.wakes && has_sleepers(service)) wake(service, worker, asked.what);
     note_entries(service, held, entries_to_note(asked.what, before, said.answer));
     let_go(held, said.answer == WAKHURMI_OK ? after_done(asked.what) : before);
     return said.answer == REFUSED ? WAKHURMI_BUSY : (wakhurmi_answer)said.answer;
 }
 
-/* Whether a call's locks are such as the proved part takes. It refuses others at once, so they aren't kept back. */
+/* Whether a call's locks, or services, are such as the proved part takes. It refuses others at once, so they aren't kept back. */
 static bool strictly_rise(const wakhurmi_service *service, request asked) {
-    if (asked.count > service->locks) return false;
+    uint32_t there_are = takes_uses(asked.what) ? service->services : service->locks;
+    if (asked.count > there_are) return false;
     for (size_t i = 1; i < asked.count; i++) {
         if (asked.locks[i - 1] >= asked.locks[i]) return false;
     }
-    return asked.count == 0 || asked.locks[asked.count - 1] < service->locks;
+    return asked.count == 0 || asked.locks[asked.count - 1] < there_are;
 }
 
 /* Waits a moment while somebody asks. */
@@ -140,16 +141,27 @@ static wakhurmi_answer perform_over_plan(wakhurmi_service *service, uint32_t wor
     return WAKHURMI_MISUSED;
 }
 
+/* A service with maxima has no lock of a number to its callers: to the proved part those are the locks of the shared services. So it is asked for one
+ * that isn't there, and answers as it does to such a number. */
+static void ask_for_no_lock(request *asked) {
+    static const uint32_t none[1] = {NO_LOCK};
+    asked->locks = none;
+    asked->count = 1;
+}
+
 /* A call that isn't as most are: somebody is queued or asks, a handle is lent, the call doesn't fit what its worker has, and the like. */
 SELDOM wakhurmi_answer perform_unusual(wakhurmi_service *service, uint32_t worker, request asked) {
     if (!is_ours(service)) return WAKHURMI_MISUSED;
     if (worker >= service->count) return WAKHURMI_BAD_NUMBER;
     if (service->is_planned) return perform_over_plan(service, worker, asked);
+    if (takes_uses(asked.what) && service->maxima == NULL) return WAKHURMI_MISUSED;
+    if (takes_locks(asked.what) && asked.count > 0 && service->maxima != NULL) ask_for_no_lock(&asked);
     slot *held = service->workers + worker;
     let_ask(service);
     use before = claim_whatever(held, IN_CALL);
     if (before == IN_CALL) return WAKHURMI_MISUSED;
-    bool may_sleep = (asked.what == TAKE && before == EMPTY && strictly_rise(service, asked)) || (asked.what == LEAVE && before == IN_SECTION);
+    bool takes = (asked.what == TAKE || asked.what == TAKE_USES) && before == EMPTY && strictly_rise(service, asked);
+    bool may_sleep = takes || (asked.what == LEAVE && before == IN_SECTION);
     bool sleeps = may_sleep && is_noted(service, SOMEBODY_QUEUED);
     told said = sleeps ? (told){WAKHURMI_BUSY, false} : look_once(held, asked.what, asked.locks, asked.count);
     return complete(service, worker, asked, before, said.answer, said.wakes);
@@ -176,7 +188,7 @@ IN_EACH_CALL wakhurmi_answer perform(wakhurmi_service *service, uint32_t worker,
     if (!is_all_done(service, held, what, said)) {
         return complete(service, worker, (request){what, locks, count, deadline}, before_most(what), said.answer, said.wakes);
     }
-    if (before_most(what) == EMPTY) held->marks = marks_of(locks, count);
+    if (before_most(what) == EMPTY) held->marks = marks_of(locks, count, service->all);
     let_go(held, after_done(what));
     return WAKHURMI_OK;
 }
@@ -201,6 +213,23 @@ wakhurmi_answer wakhurmi_take_until(wakhurmi_service *service, uint32_t worker, 
 wakhurmi_answer wakhurmi_try_take(wakhurmi_service *service, uint32_t worker, const uint32_t *locks, size_t count) {
     if (locks == NULL && count > 0) return WAKHURMI_MISUSED;
     return perform(service, worker, TRY_TAKE, locks == NULL ? no_locks : locks, count, NEVER);
+}
+
+wakhurmi_answer wakhurmi_take_uses(wakhurmi_service *service, uint32_t worker, const uint32_t *services, size_t count) {
+    if (services == NULL && count > 0) return WAKHURMI_MISUSED;
+    return perform_unusual(service, worker, (request){TAKE_USES, services == NULL ? no_locks : services, count, NEVER});
+}
+
+wakhurmi_answer wakhurmi_take_uses_until(wakhurmi_service *service, uint32_t worker, const uint32_t *services, size_t count,
+                                         const struct timespec *deadline) {
+    if (deadline == NULL || (services == NULL && count > 0)) return WAKHURMI_MISUSED;
+    if (!is_time(deadline)) return WAKHURMI_BAD_NUMBER;
+    return perform_unusual(service, worker, (request){TAKE_USES, services == NULL ? no_locks : services, count, moment_of(deadline)});
+}
+
+wakhurmi_answer wakhurmi_try_take_uses(wakhurmi_service *service, uint32_t worker, const uint32_t *services, size_t count) {
+    if (services == NULL && count > 0) return WAKHURMI_MISUSED;
+    return perform_unusual(service, worker, (request){TRY_TAKE_USES, services == NULL ? no_locks : services, count, NEVER});
 }
 
 wakhurmi_answer wakhurmi_hand_back(wakhurmi_service *service, uint32_t worker) {
@@ -313,6 +342,7 @@ static void deallocate(wakhurmi_service *service) {
     free(service->uses);
     free(service->handles);
     free(service->queue.calls);
+    free(service->maxima);
     wakhurmi_free_seats(service->seats, service->count);
     free(service);
 }
@@ -323,6 +353,7 @@ wakhurmi_service *wakhurmi_allocate(uint32_t workers) {
     if (service == NULL) return NULL;
     memset(service, 0, size);
     service->count = workers;
+    service->all = NO_LOCK;
     service->sleeping = calloc(workers, sizeof *service->sleeping);
     service->asleep = calloc(workers, sizeof *service->asleep);
     service->uses = calloc(workers, sizeof *service->uses);
@@ -347,9 +378,13 @@ bool wakhurmi_begin_service(wakhurmi_service *service, uint32_t max_leases, uint
     if ((service->is_planned && service->seats == NULL) || !has_waiting_tools(service)) return false;
     service->max_leases = max_leases;
     service->forks = atomic_load(&wakhurmi_forks);
-    atomic_store(&service->usual, service->is_planned ? service->forks | OVER_A_PLAN : service->forks);
+    atomic_store(&service->usual, service->forks | (service->is_planned ? OVER_A_PLAN : 0) | (service->maxima != NULL ? WITH_MAXIMA : 0));
     let_go(&service->book, GONE);
-    for (uint32_t worker = 0; worker < service->count; worker++) service->workers[worker].held = moved(&service->handles[worker]);
+    for (uint32_t worker = 0; worker < service->count; worker++) {
+        service->workers[worker].held = moved(&service->handles[worker]);
+        service->workers[worker].maxima = service->maxima;
+        service->workers[worker].services = service->services;
+    }
     wakhurmi_begin_history(service, entries);
     return true;
 }
@@ -359,20 +394,67 @@ void wakhurmi_give_up(wakhurmi_service *service) {
     if (service != NULL) deallocate(service);
 }
 
-wakhurmi_answer wakhurmi_open_keeping(uint32_t workers, uint32_t max_leases, uint32_t locks, uint64_t entries, wakhurmi_service **opened) {
-    if (opened == NULL) return WAKHURMI_MISUSED;
-    if (workers < 1 || workers > MAX_WORKERS || locks > MAX_LOCKS) return WAKHURMI_BAD_NUMBER;
-    wakhurmi_service *service = wakhurmi_allocate(workers);
+static bool are_maxima(const uint32_t *maxima, size_t count) {
+    if (count < 1 || count > MAX_SERVICES) return false;
+    for (size_t at = 0; at < count; at++) {
+        if (maxima[at] < 1 || maxima[at] > MAX_USES) return false;
+    }
+    return true;
+}
+
+static bool are_options(const wakhurmi_options *asked) {
+    if (asked->workers < 1 || asked->workers > MAX_WORKERS) return false;
+    if (asked->maxima == NULL) return asked->locks <= MAX_LOCKS - (asked->all_projects ? 1 : 0);
+    return asked->locks == 0 && !asked->all_projects && are_maxima(asked->maxima, asked->services);
+}
+
+/* How many locks a service has: as many as its options say, or as the maxima are together. */
+static uint32_t lock_count(const wakhurmi_options *asked) {
+    uint32_t locks = asked->locks + (asked->all_projects ? 1 : 0);
+    for (size_t at = 0; asked->maxima != NULL && at < asked->services; at++) locks += asked->maxima[at];
+    return locks;
+}
+
+static bool has_maxima(wakhurmi_service *service, const wakhurmi_options *asked) {
+    if (asked->maxima == NULL) return true;
+    service->maxima = calloc(asked->services, sizeof *service->maxima);
+    if (service->maxima == NULL) return false;
+    memcpy(service->maxima, asked->maxima, asked->services * sizeof *service->maxima);
+    service->services = (uint32_t)asked->services;
+    return true;
+}
+
+/* The options are such as there may be, but for the number of leases, which the proved part tests. */
+static wakhurmi_answer open_service(const wakhurmi_options *asked, wakhurmi_service **opened) {
+    wakhurmi_service *service = wakhurmi_allocate(asked->workers);
     if (service == NULL) return WAKHURMI_NO_MEMORY;
-    uint32_t answer = wakhurmi_c_open(max_leases, locks, service->handles, workers);
-    if (answer == WAKHURMI_OK && !wakhurmi_begin_service(service, max_leases, entries)) answer = WAKHURMI_NO_MEMORY;
+    uint32_t answer = wakhurmi_c_open(asked->max_leases, lock_count(asked), asked->all_projects, service->handles, asked->workers);
+    uint64_t entries = asked->drops_history ? asked->kept_entries : UINT64_MAX;
+    bool fails = answer == WAKHURMI_OK && (!has_maxima(service, asked) || !wakhurmi_begin_service(service, asked->max_leases, entries));
+    if (fails) answer = WAKHURMI_NO_MEMORY;
     if (answer != WAKHURMI_OK) {
         wakhurmi_give_up(service);
         return (wakhurmi_answer)answer;
     }
-    service->locks = locks;
+    service->locks = lock_count(asked);
+    if (asked->all_projects) service->all = asked->locks;
     *opened = service;
     return WAKHURMI_OK;
+}
+
+wakhurmi_answer wakhurmi_open_with(const wakhurmi_options *options, wakhurmi_service **opened) {
+    if (options == NULL || opened == NULL) return WAKHURMI_MISUSED;
+    /* Options of another size may have no member behind the first. */
+    if (options->size != sizeof *options) return WAKHURMI_BAD_NUMBER;
+    if (options->maxima == NULL && options->services > 0) return WAKHURMI_MISUSED;
+    return are_options(options) ? open_service(options, opened) : WAKHURMI_BAD_NUMBER;
+}
+
+wakhurmi_answer wakhurmi_open_keeping(uint32_t workers, uint32_t max_leases, uint32_t locks, uint64_t entries, wakhurmi_service **opened) {
+    wakhurmi_options asked = {.size = sizeof asked, .workers = workers, .max_leases = max_leases, .locks = locks};
+    asked.drops_history = true;
+    asked.kept_entries = entries;
+    return wakhurmi_open_with(&asked, opened);
 }
 
 wakhurmi_answer wakhurmi_open(uint32_t workers, uint32_t max_leases, uint32_t locks, wakhurmi_service **opened) {

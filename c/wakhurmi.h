@@ -19,7 +19,7 @@
  *   - a call of the parent's service or part in the child of a fork, where wakhurmi_close and wakhurmi_close_part do nothing. The child may
  *     open a service of its own. What vfork or a bare system call makes isn't known as a child.
  *
- * The caller's part, of which nothing is told. A service is one that wakhurmi_open or wakhurmi_open_keeping gave and wakhurmi_close hasn't
+ * The caller's part, of which nothing is told. A service is one that wakhurmi_open or a call like it gave and wakhurmi_close hasn't
  * taken, and while it is closed no other call of it runs: a second close can't be told from the first. The same holds of a part, which
  * wakhurmi_take_history gives and wakhurmi_close_part takes. Pointers are valid for what is read or written there. Numbers may be any: each
  * is tested.
@@ -33,7 +33,8 @@
  * What calls cost. wakhurmi_open: by workers and locks. A call that takes or gives back K locks: by K, and more than in proportion above some
  * hundreds; 4,096 at once take milliseconds. One that is refused for its numbers reads them up to the first that is wrong. Where others wait one that
  * gives something back goes through them, and wakes those that wait for a lease or for one of its locks; another lock may be taken for one of its own
- * where there are more than 64. wakhurmi_leases_out and wakhurmi_finish: by workers. wakhurmi_stop: by those that wait, which all wake.
+ * where there are more than 64. One that takes uses looks at up to 32 locks of each service, and takes memory for the time of the call.
+ * wakhurmi_leases_out and wakhurmi_finish: by workers. wakhurmi_stop: by those that wait, which all wake.
  * wakhurmi_history and wakhurmi_part_text: by the bytes written. wakhurmi_take_history: by the entries of an old part, outside the service; inside it
  * is constant. wakhurmi_close and wakhurmi_close_part: by the entries that are there.
  *
@@ -43,10 +44,10 @@
  *
  * In which order calls get what they wait for. Whoever looks first gets what is free. But a call that has waited for 10 milliseconds, while 4 entries
  * or more let something go, is queued; where 32 calls wait it is so without the 10 milliseconds. From then on a later call waits for it, though it
- * could be done at once, where both take one lock, or where the queued one found all leases out. Those aren't kept back so: wakhurmi_try_take; a call
- * of a worker that has a lease, as the queued one may wait for just what that worker has; and any call that was kept back for 100 milliseconds, since
- * a worker with a lock may wait elsewhere for the one that is kept back. wakhurmi_leave is queued and kept back for its lease and its locks, as a
- * take of these.
+ * could be done at once, where both take one lock, or uses of one shared service, or one of them takes the all-projects lock and the other any; or
+ * where the queued one found all leases out. Those aren't kept back so: wakhurmi_try_take and wakhurmi_try_take_uses; a call of a worker that has a
+ * lease, as the queued one may wait for just what that worker has; and any call that was kept back for 100 milliseconds, since a worker with a lock may
+ * wait elsewhere for the one that is kept back. wakhurmi_leave is queued and kept back for its lease and its locks, as a take of these.
  *
  * Calls of several threads may meet inside the service. Then all but one pause, and after some 20 microseconds each naps, for 50 or more at a
  * time, until it finds nobody inside. No comment below calls that waiting, no deadline ends it, and nothing bounds how often a call naps.
@@ -67,7 +68,7 @@ typedef struct wakhurmi_service wakhurmi_service;
 typedef struct wakhurmi_part wakhurmi_part; /* Entries of a history, which were taken. */
 
 /* After every answer but WAKHURMI_OK the worker has what it had, and what is written by a pointer is as it was. The history is longer
- * by a failed entry where wakhurmi_try_take answers WAKHURMI_BUSY, and else as the other workers leave it. */
+ * by a failed entry where wakhurmi_try_take or wakhurmi_try_take_uses answers WAKHURMI_BUSY, and else as the other workers leave it. */
 typedef enum {
     WAKHURMI_OK = 0,         /* The call did what it says. */
     WAKHURMI_BUSY = 1,       /* Another worker has what the call takes. */
@@ -96,6 +97,35 @@ wakhurmi_answer wakhurmi_open(uint32_t workers, uint32_t max_leases, uint32_t lo
  * longer by that: it goes through the entries that it drops. Others don't wait for this. */
 wakhurmi_answer wakhurmi_open_keeping(uint32_t workers, uint32_t max_leases, uint32_t locks, uint64_t entries, wakhurmi_service **service);
 
+/* What a service is opened with. `size` is sizeof(wakhurmi_options): by it a later version of this library knows which members there are. What isn't
+ * set is 0 and says none, as in
+ *     wakhurmi_options options = {.size = sizeof options, .workers = 8, .max_leases = 4, .locks = 100, .all_projects = true}; */
+typedef struct {
+    size_t size;
+    uint32_t workers;    /* 1 to 256. */
+    uint32_t max_leases; /* 1 to 256. */
+    uint32_t locks;      /* At most 65,536 project locks, the all-projects lock included. */
+    bool all_projects;   /* Whether there is one lock more, whose number is `locks`: the all-projects lock. */
+    bool drops_history;  /* Whether the last `kept_entries` of the history are kept alone, as by wakhurmi_open_keeping. Else all are kept. */
+    uint64_t kept_entries;
+    const uint32_t *maxima; /* In place of locks: for each of some shared services how many workers may use it at once, 1 to 32. They are copied. */
+    size_t services;        /* How many services there are: 1 to 64, or 0 where `maxima` is null. */
+} wakhurmi_options;
+
+/* Opens a service with options. While a worker owns the all-projects lock no other worker owns a lock. It is taken as the others are, by its number,
+ * once no other worker owns one; and a call that takes another lock has to wait for its owner, or answers WAKHURMI_BUSY, as for the owner of that lock.
+ *
+ * A service with `maxima` has no project locks. Its workers take uses of shared services by wakhurmi_take_uses and the two calls behind it, and
+ * by wakhurmi_take a lease alone. wakhurmi_hand_back gives the uses back, wakhurmi_enter parks them, and wakhurmi_leave takes them again. To the history
+ * a use is a lock: service 0 has as many as its maximum from 0 on, and each other as many behind those before it. A leave takes the very locks that were
+ * parked, so it may wait for a worker that has one of them while another lock of that service is free.
+ *
+ * OK          The service is written to `service`. Nobody has anything, and the history is empty.
+ * BAD_NUMBER  `size` is another, a member isn't in its range, or there are locks beside `maxima`.
+ * MISUSED     `options` or `service` is null, or `maxima` is where there are services.
+ * NO_MEMORY */
+wakhurmi_answer wakhurmi_open_with(const wakhurmi_options *options, wakhurmi_service **service);
+
 /* Takes a lease and these locks in one entry: the locks that the worker doesn't own yet, and the lease where it has none. It waits
  * while another worker owns one of the locks, or the worker has no lease and as many as may be are out; and for calls that are queued, as
  * said above. `count` may be 0.
@@ -122,6 +152,31 @@ wakhurmi_answer wakhurmi_take_until(wakhurmi_service *service, uint32_t worker, 
  * BUSY        At the moment of its entry another worker owned one of the locks, or the worker had no lease and as many as may be were
  *             out. The history shows the failed entry. */
 wakhurmi_answer wakhurmi_try_take(wakhurmi_service *service, uint32_t worker, const uint32_t *locks, size_t count);
+
+/* Takes a lease and one use of each of these shared services in one entry, for a worker that has nothing: the lowest lock of each that nobody owns. It
+ * waits while as many workers use one of them as may, or as many leases as may be are out; and for calls that are queued, as said above. `count` may be
+ * 0.
+ *
+ * OK          The worker has a lease and the uses.
+ * STOPPED     The call would have to wait, and the service has been stopped.
+ * BAD_NUMBER  There is no such worker or no such shared service, or the numbers of these don't strictly rise.
+ * MISUSED     As said above, or the worker has a lease or is in a blocking section, or the service was opened without `maxima`.
+ * NO_MEMORY */
+wakhurmi_answer wakhurmi_take_uses(wakhurmi_service *service, uint32_t worker, const uint32_t *services, size_t count);
+
+/* The same, and waits until the deadline at most, as wakhurmi_take_until.
+ *
+ * TIMED_OUT   The call would have to wait beyond the deadline. There is no entry.
+ * BAD_NUMBER  As wakhurmi_take_uses, or the deadline's nanoseconds aren't below 1,000,000,000. */
+wakhurmi_answer wakhurmi_take_uses_until(wakhurmi_service *service, uint32_t worker, const uint32_t *services, size_t count,
+                                         const struct timespec *deadline);
+
+/* The same as wakhurmi_take_uses without waiting, also once the service has been stopped.
+ *
+ * OK, BAD_NUMBER, MISUSED, NO_MEMORY   As wakhurmi_take_uses.
+ * BUSY        At the moment of its entry as many workers as may used one of the services, or as many leases as may be were out. The history
+ *             shows the failed entry. */
+wakhurmi_answer wakhurmi_try_take_uses(wakhurmi_service *service, uint32_t worker, const uint32_t *services, size_t count);
 
 /* Hands back the lease and all locks of the worker, in one entry. It waits for no lease and no lock. What other workers have doesn't keep
  * it from that, and those that are inside the service do for a moment, as said above.
@@ -209,7 +264,8 @@ wakhurmi_answer wakhurmi_finish(wakhurmi_service *service);
  *
  * `leases check PLAN` checks the text by a plan whose run has as many locks. To a plan's run the last lock is the all-projects lock, which
  * nobody may own while another worker owns a project's. Here it is a lock like the others: a history in which it was owned beside
- * another isn't lawful there. So who wants to check opens the service with one lock more, and never takes the last.
+ * another isn't lawful there. So who wants to check opens the service with one lock more, and never takes the last; or by wakhurmi_open_with
+ * with the all-projects lock, which is the same lock to both.
  *
  * OK          So many bytes are written to `written`, 0 behind the last line.
  * BAD_NUMBER  The buffer is too small for the next line. A line has less than 1,800,000 bytes, and that of an entry that takes or gives
@@ -244,8 +300,8 @@ wakhurmi_answer wakhurmi_history(wakhurmi_service *service, uint64_t *place, cha
  *   behind ITEM or FETCH                                                                         wakhurmi_done, wakhurmi_done_next
  *   behind wakhurmi_enter                                                                        wakhurmi_leave
  * There is no section inside an item: its lock may be parked, and a section takes all up again. wakhurmi_stop, wakhurmi_leases_out and
- * wakhurmi_finish are as without a plan. wakhurmi_take, wakhurmi_take_until, wakhurmi_try_take, wakhurmi_hand_back, wakhurmi_leave_until and
- * wakhurmi_take_history answer MISUSED on a service over a plan.
+ * wakhurmi_finish are as without a plan. wakhurmi_take, wakhurmi_take_until, wakhurmi_try_take, wakhurmi_take_uses, wakhurmi_take_uses_until,
+ * wakhurmi_try_take_uses, wakhurmi_hand_back, wakhurmi_leave_until and wakhurmi_take_history answer MISUSED on a service over a plan.
  *
  * What is proved of a service over a plan (crates/planned_work): each answer is the choice of the rules in the very book in which its entry stands;
  * BUSY comes only where that book gives no choice; MISUSED exactly where the worker has something else; and where a worker was told ENDED, the history

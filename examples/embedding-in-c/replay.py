@@ -3,6 +3,8 @@
 
 Each worker has one lease at most and at most so many are out; a lock has one owner; who is in a blocking section has nothing,
 and takes the locks again that it parked there, the last one first. At the end nobody has anything.
+
+With --all-projects the last lock is the all-projects lock: while a worker owns it no other worker owns a lock.
 """
 
 import re
@@ -19,8 +21,9 @@ def demand(holds: bool, what: str) -> None:
 
 
 class State:
-    def __init__(self, workers: int, most: int, locks: int) -> None:
+    def __init__(self, workers: int, most: int, locks: int, has_all: bool) -> None:
         self.workers, self.most, self.locks = workers, most, locks
+        self.all_projects = locks - 1 if has_all else None
         self.leased: set[int] = set()
         self.blocked: set[int] = set()
         self.owners: dict[int, int] = {}
@@ -33,6 +36,8 @@ class State:
     def on_lock(self, worker: int, lock: int) -> None:
         demand(lock < self.locks, f"there is no lock {lock}")
         demand(lock not in self.owners and worker not in self.blocked, f"lock {lock} is taken")
+        others = [own for own, owner in self.owners.items() if owner != worker]
+        demand(self.all_projects not in (lock, *others) or not others, "the all-projects lock is taken beside another's lock")
         self.owners[lock] = worker
 
     def on_unlock(self, worker: int, lock: int) -> None:
@@ -67,11 +72,11 @@ class State:
         return not (self.leased or self.blocked or self.owners or any(self.parked.values()))
 
 
-def replay(lines: list[str]) -> int:
+def replay(lines: list[str], has_all: bool) -> int:
     demand(lines[0] == "history 2", "no history stands there")
     head = re.fullmatch(r"workers (\d+) max (\d+) parallel yes locks (\d+)", lines[1])
     demand(head is not None, "the second line isn't a head")
-    state = State(*map(int, head.groups()))
+    state = State(*map(int, head.groups()), has_all)
     for number, line in enumerate(lines[2:-1], 1):
         entry = re.fullmatch(r"(\d+) w(\d+) (acquire|handback|block -|unblock -) \| (.*)", line)
         demand(entry is not None and int(entry[1]) == number, f"entry {number} has another form")
@@ -85,6 +90,6 @@ def replay(lines: list[str]) -> int:
 
 
 try:
-    print("lawful", replay(sys.stdin.read().splitlines()))
+    print("lawful", replay(sys.stdin.read().splitlines(), "--all-projects" in sys.argv[1:]))
 except Broken as broken:
     sys.exit(f"not lawful: {broken}")

@@ -135,6 +135,9 @@ class Driven:
             "wakhurmi_take": (None, 0),
             "wakhurmi_take_until": (None, 0, ctypes.byref(_native._Time())),
             "wakhurmi_try_take": (None, 0),
+            "wakhurmi_take_uses": (None, 0),
+            "wakhurmi_take_uses_until": (None, 0, ctypes.byref(_native._Time())),
+            "wakhurmi_try_take_uses": (None, 0),
             "wakhurmi_leave_until": (ctypes.byref(_native._Time()),),
             "wakhurmi_done": (True, 1),
             "wakhurmi_done_next": (True, 1),
@@ -182,7 +185,7 @@ class StateTests(unittest.TestCase):
         self.assertEqual(rows.keys(), STATES.keys())
         calls = set().union(*rows.values())
         self.assertEqual(len(calls), 6)
-        self.assertEqual(len(never), 6)
+        self.assertEqual(len(never), 9)
         for state, may in rows.items():
             for drive in STATES[state]:
                 with self.subTest(drive.__name__):

@@ -55,6 +55,17 @@ class Thread(threading.Thread):
         return self.error
 
 
+def in_thread_raises(call: Callable[..., object], *arguments: object) -> Callable[[], None]:
+    """What raises here the error that the call raises in another thread."""
+
+    def make() -> None:
+        error = in_thread(call, *arguments).outcome()
+        if isinstance(error, Exception):
+            raise error
+
+    return make
+
+
 def run_python(text: str, *arguments: str) -> subprocess.Popen:
     words = [sys.executable, "-W", "ignore", "-c", textwrap.dedent(text), *arguments]
     how = {"stdin": subprocess.PIPE, "stdout": subprocess.PIPE, "stderr": subprocess.STDOUT, "universal_newlines": True}
@@ -86,8 +97,8 @@ class Case(unittest.TestCase):
         """Those of the ended service, without their numbers."""
         return [line.rstrip(b"\n").partition(b" ")[2] for line in list(service.history())[2:-1]]
 
-    def assert_lawful(self, text: bytes) -> int:
-        ran = subprocess.run([sys.executable, str(REPLAY)], input=text, stdout=subprocess.PIPE, stderr=subprocess.STDOUT, check=False)
+    def assert_lawful(self, text: bytes, *words: str) -> int:
+        ran = subprocess.run([sys.executable, str(REPLAY), *words], input=text, stdout=subprocess.PIPE, stderr=subprocess.STDOUT, check=False)
         self.assertEqual(ran.returncode, 0, ran.stdout)
         return int(ran.stdout.split()[1])
 
@@ -106,6 +117,7 @@ class HeaderTests(unittest.TestCase):
         "uint64_t *": ctypes.POINTER(ctypes.c_uint64),
         "size_t *": ctypes.POINTER(ctypes.c_size_t),
         "struct timespec *": ctypes.POINTER(_native._Time),
+        "wakhurmi_options *": ctypes.POINTER(_native._Options),
         "wakhurmi_plan *": ctypes.c_void_p,
         "wakhurmi_plan **": ctypes.POINTER(ctypes.c_void_p),
         "wakhurmi_retention": ctypes.c_uint,
@@ -265,6 +277,120 @@ class CallTests(Case):
         self.assertTrue(service.closed)
 
 
+class OptionTests(Case):
+    """Services with the all-projects lock, and with the maxima of shared services."""
+
+    def shared(self, workers: int = 4, max_leases: int = 4, maxima: Tuple[int, ...] = (2, 1, 3), **how: int) -> Service:
+        return self.service(workers, max_leases, 0, maxima=maxima, **how)
+
+    def test_the_options_have_the_members_that_the_header_declares(self) -> None:
+        found = re.search(r"typedef struct \{([^}]*)\} wakhurmi_options;", re.sub(r"/\*.*?\*/", "", HEADER.read_text(), flags=re.S))
+        assert found is not None
+        kinds = {"size_t": ctypes.c_size_t, "uint32_t": ctypes.c_uint32, "bool": ctypes.c_bool, "uint64_t": ctypes.c_uint64}
+        kinds["const uint32_t *"] = ctypes.POINTER(ctypes.c_uint32)
+        members = [(name, kinds[kind.strip()]) for kind, name in re.findall(r"(\S.*?)(\w+);", found[1])]
+        self.assertEqual(members, _native._Options._fields_)
+
+    def test_options_out_of_range(self) -> None:
+        opened = [(0, 1, 1), (257, 1, 1), (1, 0, 1), (1, 257, 1), (1, 1, 65536), (1, 1, 2**32 - 1), (1, 1, 2**32)]
+        self.assert_refused(BadNumber, [lambda numbers=numbers: Service(*numbers, all_projects=True) for numbers in opened])
+        maxima = [(), (0,), (33,), (1, 0, 1), (1,) * 65, (-1,), (2**32,), (2**32 + 1,)]
+        self.assert_refused(BadNumber, [lambda maxima=maxima: Service(1, 1, maxima=maxima) for maxima in maxima])
+        self.assert_refused(BadNumber, [lambda: Service(1, 1, 1, maxima=[1]), lambda: Service(1, 1, maxima=[1], all_projects=True)])
+        self.assertEqual((self.shared(maxima=(32,) * 64).maxima, self.service().maxima), ((32,) * 64, None))
+        self.assertEqual((self.service(locks=65535, all_projects=True).all_projects, self.service().all_projects), (65535, None))
+
+    def test_the_all_projects_lock_and_the_others(self) -> None:
+        service = self.service(workers=3, max_leases=3, locks=2, all_projects=True)
+        every = service.all_projects
+        assert every is not None
+        service.take(0, every)
+        self.assert_refused(Busy, [lambda: service.try_take(1, 0), lambda: service.try_take(1, 1), lambda: service.try_take(1, every)])
+        self.assert_refused(TimedOut, [lambda: service.take(1, 1, deadline=0)])
+        service.take(0, 0)
+        waits = [in_thread(service.take, 1, 0), in_thread(service.take, 2, 1)]
+        time.sleep(A_WHILE)
+        self.assertTrue(all(thread.is_alive() for thread in waits))
+        service.hand_back(0)
+        self.assertEqual([thread.outcome() for thread in waits], [None, None])
+        self.assert_refused(Busy, [lambda: service.try_take(0, every)])
+        service.hand_back(1)
+        waits = [in_thread(service.take, 0, every)]
+        time.sleep(A_WHILE)
+        self.assertTrue(waits[0].is_alive())
+        service.hand_back(2)
+        self.assertIsNone(waits[0].outcome())
+        self.assert_refused(BadNumber, [lambda: service.take(1, every + 1)])
+        service.hand_back(0)
+        service.finish()
+        self.assert_lawful(b"".join(service.history()), "--all-projects")
+
+    def test_as_many_use_a_service_as_may(self) -> None:
+        service = self.shared()
+        service.take_uses(0, 0, 2)
+        service.try_take_uses(1, 0)
+        self.assert_refused(Busy, [lambda: service.try_take_uses(2, 0), lambda: service.try_take_uses(2, 0, 1)])
+        self.assert_refused(TimedOut, [lambda: service.take_uses(2, 0, deadline=0)])
+        self.assert_refused(Misused, [lambda: service.take_uses(0, 1), lambda: service.try_take_uses(0)])
+        for numbers in ((3,), (1, 0), (0, 0), (2**32 - 1,), (2**32,), (-1,)):
+            calls = [lambda numbers=numbers: service.take_uses(2, *numbers), lambda numbers=numbers: service.try_take_uses(2, *numbers)]
+            self.assert_refused(BadNumber, [*calls, lambda: service.take_uses(4), lambda: service.take(2, 0), lambda: service.try_take(2, 0)])
+        with service.using(2, 1, 2):
+            with service.blocking(2):
+                service.take_uses(3, 1)
+                service.hand_back(3)
+            self.assertEqual(service.leases_out(), 3)
+        waits = in_thread(service.take_uses, 3, 0)
+        time.sleep(A_WHILE)
+        self.assertTrue(waits.is_alive())
+        service.enter(0)
+        self.assertIsNone(waits.outcome())
+        service.stop()
+        self.assert_refused(Stopped, [lambda: service.leave(0), lambda: service.take_uses(2, 0), in_thread_raises(service.take_uses, 2, 0)])
+        self.assert_refused(Misused, [lambda: service.take_uses(0), lambda: service.take(0, 0)])
+        service.take(2)
+        service.hand_back(3)
+        service.leave(0)
+        for worker in range(3):
+            service.hand_back(worker)
+        service.finish()
+        self.assert_refused(Misused, [lambda: service.take_uses(0), lambda: service.try_take_uses(0), lambda: service.take(0, 0)])
+        text = b"".join(service.history())
+        self.assertEqual(text.splitlines()[1], b"workers 4 max 4 parallel yes locks 6")
+        self.assert_lawful(text)
+
+    def test_without_maxima_there_are_no_uses(self) -> None:
+        service = self.service()
+        calls = [lambda: service.take_uses(0), lambda: service.try_take_uses(0, 0), lambda: service.take_uses(0, 0, deadline=0)]
+        self.assert_refused(Misused, [*calls, lambda: service.using(0, 1).__enter__()])
+        self.assert_refused(BadNumber, [lambda: service.take_uses(3), lambda: service.take_uses(0, deadline=math.nan)])
+
+    def test_never_more_users_than_may_be(self) -> None:
+        maxima = (2, 1, 3)
+        service, users, lock = self.shared(8, 4, maxima), [0, 0, 0], threading.Lock()
+
+        def count(services: Tuple[int, ...], by: int) -> None:
+            with lock:
+                for used in services:
+                    users[used] += by
+                    assert 0 <= users[used] <= maxima[used], users
+
+        def work(worker: int) -> None:
+            for turn in range(300):
+                services = ((worker + turn) % 3,) if turn % 4 else (0, 1, 2)
+                with service.using(worker, *services):
+                    count(services, 1)
+                    count(services, -1)
+                    if turn % 10 == 0:
+                        with service.blocking(worker):
+                            pass
+
+        threads = [in_thread(work, worker) for worker in range(8)]
+        self.assertEqual([thread.outcome() for thread in threads], 8 * [None])
+        service.finish()
+        self.assertEqual(self.assert_lawful(b"".join(service.history())), 8 * (2 * 300 + 2 * 30))
+
+
 class WaitTests(Case):
     """The thread of the tests is the main one, which waits by slices. Others don't."""
 
@@ -374,13 +500,22 @@ class SignalTests(Case):
                 service.hand_back(2)
                 service.finish()
                 print(len(list(service.history())))
+            with wakhurmi.Service(2, 2, maxima=[1]) as service:
+                service.take_uses(0, 0)
+                print("waits", flush=True)
+                try:
+                    service.take_uses(1, 0)
+                except KeyboardInterrupt:
+                    print("heard", service.leases_out(), flush=True)
         """)
-        for _ in range(3):
+        for number in range(4):
             self.assertEqual(child.stdout.readline(), "waits\n")
             time.sleep(A_WHILE)
             child.send_signal(signal.SIGINT)
             self.assertEqual(child.stdout.readline(), "heard 1\n")
-        self.assertEqual(rest_of(child), "11\n")
+            if number == 2:
+                self.assertEqual(child.stdout.readline(), "11\n")
+        self.assertEqual(rest_of(child), "")
 
     def test_control_c_comes_out_of_a_service_whose_threads_wait(self) -> None:
         child = run_python("""

@@ -14,6 +14,13 @@ project lock has one owner at most. Every call that changes something makes one 
         service.finish()
         sys.stdout.buffer.writelines(service.history())
 
+A service may have the lock of all projects, beside which no other worker owns one, or shared services in place of locks, of which each may have so
+many users at once:
+
+    with wakhurmi.Service(workers=8, max_leases=4, maxima=[2, 1]) as service:
+        with service.using(0, 0, 1):            # worker 0 has a lease, and uses both services
+            build()
+
 A plan says what there is to do: tasks, each with a lock, the tasks that it comes after, and actions with so many items. A service over a plan says
 to each worker what it does next, and `Plan.run` has threads do it:
 

@@ -21,6 +21,22 @@ class _Time(ctypes.Structure):
     _fields_ = [("seconds", ctypes.c_long), ("nanoseconds", ctypes.c_long)]
 
 
+class _Options(ctypes.Structure):
+    """A wakhurmi_options."""
+
+    _fields_ = [
+        ("size", ctypes.c_size_t),
+        ("workers", ctypes.c_uint32),
+        ("max_leases", ctypes.c_uint32),
+        ("locks", ctypes.c_uint32),
+        ("all_projects", ctypes.c_bool),
+        ("drops_history", ctypes.c_bool),
+        ("kept_entries", ctypes.c_uint64),
+        ("maxima", ctypes.POINTER(ctypes.c_uint32)),
+        ("services", ctypes.c_size_t),
+    ]
+
+
 class _Work(ctypes.Structure):
     """A struct wakhurmi_work."""
 
@@ -30,15 +46,19 @@ class _Work(ctypes.Structure):
 # What the functions of the header take. All but the three that close answer by a number.
 _POINTER, _NUMBER, _SIZE = ctypes.c_void_p, ctypes.c_uint32, ctypes.c_size_t
 _TO_POINTER, _TO_NUMBER, _TO_TIME = ctypes.POINTER(_POINTER), ctypes.POINTER(_NUMBER), ctypes.POINTER(_Time)
-_TO_WORK, _TO_ENUM = ctypes.POINTER(_Work), ctypes.POINTER(ctypes.c_uint)
+_TO_OPTIONS, _TO_WORK, _TO_ENUM = ctypes.POINTER(_Options), ctypes.POINTER(_Work), ctypes.POINTER(ctypes.c_uint)
 _LOCKS = (_TO_NUMBER, _SIZE)
 _TEXT = (ctypes.POINTER(ctypes.c_uint64), ctypes.c_char_p, _SIZE, ctypes.POINTER(_SIZE))
 _SIGNATURES: Dict[str, Tuple[Any, ...]] = {
     "wakhurmi_open": (_NUMBER, _NUMBER, _NUMBER, _TO_POINTER),
     "wakhurmi_open_keeping": (_NUMBER, _NUMBER, _NUMBER, ctypes.c_uint64, _TO_POINTER),
+    "wakhurmi_open_with": (_TO_OPTIONS, _TO_POINTER),
     "wakhurmi_take": (_POINTER, _NUMBER, *_LOCKS),
     "wakhurmi_take_until": (_POINTER, _NUMBER, *_LOCKS, _TO_TIME),
     "wakhurmi_try_take": (_POINTER, _NUMBER, *_LOCKS),
+    "wakhurmi_take_uses": (_POINTER, _NUMBER, *_LOCKS),
+    "wakhurmi_take_uses_until": (_POINTER, _NUMBER, *_LOCKS, _TO_TIME),
+    "wakhurmi_try_take_uses": (_POINTER, _NUMBER, *_LOCKS),
     "wakhurmi_hand_back": (_POINTER, _NUMBER),
     "wakhurmi_enter": (_POINTER, _NUMBER),
     "wakhurmi_leave": (_POINTER, _NUMBER),

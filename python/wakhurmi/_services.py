@@ -7,10 +7,10 @@ import math
 import time
 from itertools import starmap
 from types import TracebackType
-from typing import Callable, Iterator, List, NamedTuple, Optional, Set, Tuple, Type
+from typing import Callable, Iterator, List, NamedTuple, Optional, Sequence, Set, Tuple, Type
 
 from ._errors import _OK, _TIMED_OUT, BadNumber, Misused, _demand
-from ._native import _array, _library, _number, _time
+from ._native import _array, _library, _number, _Options, _time
 from ._owner import _hears_signals, _Owner
 from ._workers import Blocking, _Workers
 
@@ -21,12 +21,14 @@ _SLICE = 0.1
 class _Deed(NamedTuple):
     """A call that can wait, and what it is where it waits until a deadline."""
 
+    name: str
     wait: Callable[..., int]
     wait_until: Callable[..., int]
 
 
-_TAKE = _Deed(_library.wakhurmi_take, _library.wakhurmi_take_until)
-_LEAVE = _Deed(_library.wakhurmi_leave, _library.wakhurmi_leave_until)
+_TAKE = _Deed("take", _library.wakhurmi_take, _library.wakhurmi_take_until)
+_TAKE_USES = _Deed("take_uses", _library.wakhurmi_take_uses, _library.wakhurmi_take_uses_until)
+_LEAVE = _Deed("leave", _library.wakhurmi_leave, _library.wakhurmi_leave_until)
 
 
 class Part(_Owner):
@@ -54,23 +56,40 @@ class Part(_Owner):
 class Service(_Workers):
     """A service for 1 to 256 workers, of whom 1 to 256 may have a lease at once, with at most 65,536 project locks.
 
-    With `keeping` it keeps so many of the last entries of its history, and hardly more than twice as many and 200 for
-    each worker; else all.
-    Raises BadNumber where a number isn't in its range, and NoMemory.
+    With `all_projects` it has one lock more, whose number is `all_projects` of the service: while a worker owns it no other worker owns a lock.
+    `maxima` come in place of locks: for each of 1 to 64 shared services how many workers may use it at once, 1 to 32. Uses are taken by `take_uses`,
+    and `take` takes a lease alone then. With `keeping` it keeps so many of the last entries of its history, and hardly more than twice as many and 200
+    for each worker; else all.
+    Raises BadNumber where a number isn't in its range, or there are locks beside maxima; and NoMemory.
 
     As a context manager it closes at the end. Where an error leaves the block, or Ctrl-C, the service is stopped first, so that no thread waits on,
     and what calls still have isn't closed before they end.
     """
 
-    __slots__ = ("locks", "_leased")
+    __slots__ = ("locks", "all_projects", "maxima", "_leased")
 
-    def __init__(self, workers: int, max_leases: int, locks: int = 0, *, keeping: Optional[int] = None) -> None:
+    def __init__(
+        self,
+        workers: int,
+        max_leases: int,
+        locks: int = 0,
+        *,
+        all_projects: bool = False,
+        maxima: Optional[Sequence[int]] = None,
+        keeping: Optional[int] = None,
+    ) -> None:
         super().__init__(workers, max_leases)
         self.locks = _number(locks, "number of locks")
+        self.all_projects = locks if all_projects else None
+        self.maxima = None if maxima is None else tuple(maxima)
         self._leased: Set[int] = set()
-        entries = 2**64 - 1 if keeping is None else _number(keeping, "number of entries", 2**64 - 1)
+        options = _Options(ctypes.sizeof(_Options), workers, max_leases, locks, all_projects, keeping is not None)
+        options.kept_entries = 0 if keeping is None else _number(keeping, "number of entries", 2**64 - 1)
+        if self.maxima is not None:
+            # None at all are refused below, where a null pointer says that there are locks.
+            options.maxima, options.services = _array(self.maxima or (0,), "maximum"), len(self.maxima)
         # It isn't open yet, so this is no call with it.
-        answer = _library.wakhurmi_open_keeping(workers, max_leases, locks, entries, ctypes.byref(self._pointer))
+        answer = _library.wakhurmi_open_with(ctypes.byref(options), ctypes.byref(self._pointer))
         _demand([answer], "open")
 
     def _wait(self, answers: List[int], deed: _Deed, deadline: Optional[float], *arguments: object) -> None:
@@ -103,15 +122,31 @@ class Service(_Workers):
             if answers == [_OK]:
                 self._leased.discard(worker)
 
-    def _take(self, answers: List[int], worker: int, locks: Tuple[int, ...], deadline: Optional[float]) -> None:
-        self._wait(answers, _TAKE, deadline, self._worker(worker), _array(locks), len(locks))
-        _demand(answers, "take")
-        self._leased.add(worker)
+    def _gain(self, worker: int, call: str, make: Callable[[List[int]], None]) -> None:
+        """Has a worker take something by a call. What the library gave just as an interrupt came is given back, where the worker had no lease before."""
+        answers: List[int] = []
+        had_lease = worker in self._leased
+        try:
+            make(answers)
+            _demand(answers, call)
+            self._leased.add(worker)
+            return
+        except BaseException:
+            if answers == [_OK] and not had_lease:
+                self._release([], _library.wakhurmi_hand_back, worker)
+            raise
 
-    def _give_back(self, answers: List[int], worker: int, had_lease: bool) -> None:
-        """Gives back what a take gave that was interrupted. It can't be done without the lease that the worker had before."""
-        if answers == [_OK] and not had_lease:
-            self._release([], _library.wakhurmi_hand_back, worker)
+    def _take(self, deed: _Deed, worker: int, numbers: Tuple[int, ...], deadline: Optional[float]) -> None:
+        def wait(answers: List[int]) -> None:
+            self._wait(answers, deed, deadline, self._worker(worker), _array(numbers, "lock or shared service"), len(numbers))
+
+        self._gain(worker, deed.name, wait)
+
+    def _try_take(self, call: str, function: Callable[..., int], worker: int, numbers: Tuple[int, ...]) -> None:
+        def make(answers: List[int]) -> None:
+            self._call(answers, function, self._worker(worker), _array(numbers, "lock or shared service"), len(numbers))
+
+        self._gain(worker, call, make)
 
     def take(self, worker: int, *locks: int, deadline: Optional[float] = None) -> None:
         """Takes a lease and these locks, which strictly rise: the locks that the worker doesn't own yet, and the lease where it has none.
@@ -124,14 +159,7 @@ class Service(_Workers):
         or another thread is in a call with it, or the service was ended; NoMemory. At a KeyboardInterrupt nothing was taken, but a worker that
         had a lease before may have the locks too; `hand_back` gives them back with the rest.
         """
-        answers: List[int] = []
-        had_lease = worker in self._leased
-        try:
-            self._take(answers, worker, locks, deadline)
-            return
-        except BaseException:
-            self._give_back(answers, worker, had_lease)
-            raise
+        self._take(_TAKE, worker, locks, deadline)
 
     def try_take(self, worker: int, *locks: int) -> None:
         """Takes as `take` does, and doesn't wait, also once the service has been stopped.
@@ -139,16 +167,27 @@ class Service(_Workers):
         Raises Busy where another worker has one of the locks, or as many leases as may be are out: the history shows the failed entry. Else as
         `take` without a deadline, but never Stopped.
         """
-        answers: List[int] = []
-        had_lease = worker in self._leased
-        try:
-            self._call(answers, _library.wakhurmi_try_take, self._worker(worker), _array(locks), len(locks))
-            _demand(answers, "try_take")
-            self._leased.add(worker)
-            return
-        except BaseException:
-            self._give_back(answers, worker, had_lease)
-            raise
+        self._try_take("try_take", _library.wakhurmi_try_take, worker, locks)
+
+    def take_uses(self, worker: int, *services: int, deadline: Optional[float] = None) -> None:
+        """Takes a lease and one use of each of these shared services, whose numbers strictly rise, for a worker that has nothing.
+
+        Waits while as many workers use one of them as may, or as many leases as may be are out, and for calls that are queued, as `take` does.
+        `hand_back` gives the uses back, `enter` parks them, and `leave` takes them again.
+
+        Raises Stopped and TimedOut as `take`; BadNumber where there is no such worker or shared service, or the numbers don't strictly rise; Misused
+        where the worker has a lease or is in a blocking section, or the service was opened without maxima, or another thread is in a call with the
+        worker, or the service was ended; NoMemory. At a KeyboardInterrupt nothing was taken.
+        """
+        self._take(_TAKE_USES, worker, services, deadline)
+
+    def try_take_uses(self, worker: int, *services: int) -> None:
+        """Takes as `take_uses` does, and doesn't wait, also once the service has been stopped.
+
+        Raises Busy where as many workers as may use one of the services, or as many leases as may be are out: the history shows the failed entry. Else
+        as `take_uses` without a deadline, but never Stopped.
+        """
+        self._try_take("try_take_uses", _library.wakhurmi_try_take_uses, worker, services)
 
     def hand_back(self, worker: int) -> None:
         """Hands back the lease and all locks of the worker. It waits for no lease and no lock.
@@ -193,7 +232,11 @@ class Service(_Workers):
         The begin raises what `take` raises, and the end what `hand_back` raises. But where an error leaves the block, and the worker has nothing or is in
         a blocking section that it couldn't leave, that error goes on.
         """
-        return Taking(self, worker, locks, deadline)
+        return Taking(self, _TAKE, worker, locks, deadline)
+
+    def using(self, worker: int, *services: int, deadline: Optional[float] = None) -> Taking:
+        """The same by `take_uses`, with uses of these shared services."""
+        return Taking(self, _TAKE_USES, worker, services, deadline)
 
     def blocking(self, worker: int, deadline: Optional[float] = None) -> Blocking:
         """A context manager for a blocking section: enters at its begin and leaves at its end, also behind an error.
@@ -223,22 +266,15 @@ class Service(_Workers):
 
 
 class Taking:
-    """What Service.taking gives."""
+    """What Service.taking and Service.using give."""
 
-    __slots__ = ("_service", "_worker", "_locks", "_deadline")
+    __slots__ = ("_service", "_deed", "_worker", "_numbers", "_deadline")
 
-    def __init__(self, service: Service, worker: int, locks: Tuple[int, ...], deadline: Optional[float]) -> None:
-        self._service, self._worker, self._locks, self._deadline = service, worker, locks, deadline
+    def __init__(self, service: Service, deed: _Deed, worker: int, numbers: Tuple[int, ...], deadline: Optional[float]) -> None:
+        self._service, self._deed, self._worker, self._numbers, self._deadline = service, deed, worker, numbers, deadline
 
     def __enter__(self) -> None:
-        answers: List[int] = []
-        had_lease = self._worker in self._service._leased
-        try:
-            self._service._take(answers, self._worker, self._locks, self._deadline)
-            return
-        except BaseException:
-            self._service._give_back(answers, self._worker, had_lease)
-            raise
+        self._service._take(self._deed, self._worker, self._numbers, self._deadline)
 
     def __exit__(self, kind: Optional[Type[BaseException]], error: Optional[BaseException], trace: Optional[TracebackType]) -> None:
         try:

@@ -149,6 +149,48 @@ static bool check_opening(int number) {
     return was;
 }
 
+/* Two shared services, of which the first may have two users. */
+static const uint32_t maxima[2] = {2, 1};
+
+static wakhurmi_answer open_with_maxima(void) {
+    const wakhurmi_options options = {.size = sizeof options, .workers = 2, .max_leases = 1, .maxima = maxima, .services = 2};
+    return wakhurmi_open_with(&options, &service);
+}
+
+static bool check_opening_with_maxima(int number) {
+    service = NULL;
+    refuse(number);
+    wakhurmi_answer answer = open_with_maxima();
+    bool was = was_refused();
+    demand(answer == (was ? WAKHURMI_NO_MEMORY : WAKHURMI_OK) && (service == NULL) == was, "what an opening with maxima answers");
+    wakhurmi_close(service);
+    return was;
+}
+
+/* A call that is refused memory leaves its worker where it was, so it can be made again. */
+static bool check_uses(int number) {
+    static const uint32_t both[2] = {0, 1};
+    char text[ROOM / 16];
+    uint64_t place = 0;
+    size_t written;
+    demand(open_with_maxima() == WAKHURMI_OK, "opened with maxima");
+    refuse(number);
+    wakhurmi_answer answers[5] = {0};
+    while ((answers[0] = wakhurmi_take_uses(service, 0, both, 2)) == WAKHURMI_NO_MEMORY) {}
+    while ((answers[1] = wakhurmi_try_take_uses(service, 1, both, 1)) == WAKHURMI_NO_MEMORY) {}
+    while ((answers[2] = wakhurmi_enter(service, 0)) == WAKHURMI_NO_MEMORY) {}
+    while ((answers[3] = wakhurmi_leave(service, 0)) == WAKHURMI_NO_MEMORY) {}
+    while ((answers[4] = wakhurmi_hand_back(service, 0)) == WAKHURMI_NO_MEMORY) {}
+    bool was = was_refused();
+    for (int at = 0; at < 5; at++) demand(answers[at] == (at == 1 ? WAKHURMI_BUSY : WAKHURMI_OK), "a call with uses");
+    demand(wakhurmi_finish(service) == WAKHURMI_OK, "ended");
+    demand(wakhurmi_history(service, &place, text, sizeof text - 1, &written) == WAKHURMI_OK, "its history");
+    text[written] = 0;
+    demand(strstr(text, "\n1 w0 acquire | lock 0, lock 2, take\n2 w1 acquire | failed\n") != NULL && strstr(text, "\nend 5\n") != NULL, "its entries");
+    wakhurmi_close(service);
+    return was;
+}
+
 /* Ends the service, in which so many entries were made. The last are there, as many as are kept; the number of the first of them. */
 static uint64_t end_and_find_first(uint64_t made) {
     static char text[ROOM];
@@ -215,6 +257,8 @@ int main(void) {
     demand(refuse_each(check_new) > 3, "a new part takes memory");
     demand(refuse_each(check_old) > 0, "a text takes memory");
     demand(refuse_each(check_opening) > 3, "an opening takes memory");
+    demand(refuse_each(check_opening_with_maxima) > 4, "an opening with maxima takes memory");
+    demand(refuse_each(check_uses) > 1, "uses take memory");
     demand(refuse_each(check_dropping) > 3, "entries take memory");
     check_meanwhile();
     check_busy();

@@ -5,6 +5,7 @@ use Rattle.std.specs.List.{list_all, list_any}
 use Rattle.std.proofs.lemmas.Bool.{and_from, and_parts, eqb-true, false≢true, false_from_ne_true, or_cases, or_right}
 use Rattle.std.proofs.lemmas.List.{nil_from_length}
 use Rattle.resource_lock.specs.GraphView.{GraphView}
+use Rattle.resource_lock.specs.Made.{made_of}
 use Rattle.resource_lock.specs.StateView.{Holding, StateView, holding_of, is_owner, owns_any, runs_any, runs_by, runs_unit, stands_in}
 use Rattle.resource_lock.specs.declared.ids.LockId.{LockId}
 use Rattle.resource_lock.specs.declared.ids.WorkerId.{WorkerId}
@@ -23,9 +24,11 @@ use Rattle.coordination.specs.Attempts.{Cause, Making}
 use Rattle.coordination.specs.Shown.{blocked_shown, lease_shown, locks_shown, parked_shown}
 use Rattle.coordination.proofs.lemmas.Entries.{belongs_sound, good_sound}
 use Rattle.blocking_section.proofs.lemmas.Up.{leaves_without}
+use Rattle.shared_services.specs.Takings.{HasTheLocks, IsShort, MayNotTake, TakesUses, has_nothing}
 use Rattle.wakhurmi_c.specs.Calls.{EnterLeaves, HandBackLeaves, LeaveLeaves, TakeLeaves}
 use Rattle.wakhurmi_c.specs.Leaves.{Leaves}
 use Rattle.wakhurmi_c.specs.Places.{HasNoTasks, are_in_order, may_hand_back, may_take}
+use Rattle.wakhurmi_c.specs.Uses.{MayBeAsked, TakeUsesLeaves, may_take_uses}
 use Rattle.wakhurmi_c.specs.declared.answers.Answer.{Answer}
 use Rattle.wakhurmi_c.specs.declared.answers.Answer.TheVariants.{Done, Busy, Refused, Stopped, Again, NoMemory, BadNumber, Misused, Empty, Full}
 
@@ -52,6 +55,10 @@ told kind makes fails retries waits refuses misuses old new BadNumber only l = a
 told kind makes fails retries waits refuses misuses old new Misused only l = absurd l.1
 told kind makes fails retries waits refuses misuses old new Empty only l = absurd l
 told kind makes fails retries waits refuses misuses old new Full only l = absurd l
+
+-- a graph that is made of workers, leases and locks alone has no tasks
+pub made_bare : (g : GraphView) (locks : ℕ) (all : Option LockId) (workers max : ℕ) → g ≡ made_of locks all workers max [] [] → HasNoTasks g
+made_bare g locks all workers max is = (ap (λ (h : GraphView). h.tasks) is, ap (λ (h : GraphView). h.actions) is, ap (λ (h : GraphView). h.units) is)
 
 -- where there is no task the book has no marks
 unmarked : (old : Sight) (book : BookView) → HasNoTasks old.seen.graph → Finds old.worker old.seen book
@@ -106,6 +113,34 @@ take_leaves shortage locks asked old new a same bare may order l =
       | inl kept ↦ absurd (false≢true (sym kept ∙ may_there old book asked bare may order found))
       | inr short ↦ short
     ]) l)
+
+-- who may take uses has nothing in the book that it finds
+nothing_there : (old : Sight) (book : BookView) → HasNoTasks old.seen.graph → may_take_uses old ≡ true → Finds old.worker old.seen book → has_nothing book.state old.worker ≡ true
+nothing_there old book bare may found =
+    let holding = found.agrees.state.holding in
+    let both = and_parts (may_take old) (not (lease_shown old)) may in
+    let place = and_parts (not (blocked_shown old)) (length (parked_shown old) == 0) both.0 in
+    let free = and_parts (not (holding_of book.state old.worker).blocked) (not (runs_any book.state old.worker)) (is_free old book bare (not_from_not (blocked_shown old) place.0) found) in
+    let leaseless : not (holding_of book.state old.worker).lease ≡ true = ap (λ (h : Holding). not h.lease) holding ∙ both.1 in
+    let parked : (length (holding_of book.state old.worker).parked == 0) ≡ true = ap (λ (h : Holding). length h.parked == 0) holding ∙ place.1 in
+    λ i. leaseless i && free.0 i && parked i && free.1 i
+
+pub take_uses_leaves : (shortage : Shortage) (maxima asked : List ℕ) (old new : Sight) (a : Answer) → HasNoTasks old.seen.graph → may_take_uses old ≡ true
+    → HasTheLocks maxima old.seen.graph
+    → Tries kinds.Acquire (TakesUses maxima asked) (λ g w s. (shortage ≡ Fails) × IsShort maxima asked s)
+    (λ g w s. MayNotTake maxima g w s ⊎ ((shortage ≡ Waits) × IsShort maxima asked s)) old new a
+    → TakeUsesLeaves shortage maxima asked old new a
+take_uses_leaves shortage maxima asked old new a bare may locks =
+    told kinds.Acquire (TakesUses maxima asked) (λ g w s. (shortage ≡ Fails) × IsShort maxima asked s)
+    (λ g w s. MayNotTake maxima g w s ⊎ ((shortage ≡ Waits) × IsShort maxima asked s))
+    (λ g w s. (shortage ≡ Waits) × IsShort maxima asked s) (λ sight. MayBeAsked maxima asked sight.seen.graph → ⊥)
+    (λ sight. may_take_uses sight ≡ false) old new a (λ book found cause. elim cause [
+      | inl kept ↦ elim kept [
+        | inl others ↦ absurd (others (ap (λ (g : GraphView). g.locks) found.agrees.graph ∙ locks.0, ap (λ (g : GraphView). g.all) found.agrees.graph ∙ locks.1))
+        | inr busy ↦ absurd (false≢true (sym busy ∙ nothing_there old book bare may found))
+      ]
+      | inr short ↦ short
+    ])
 
 -- whose list of locks isn't empty owns one
 some_owned : (n : ℕ) (os : List (Option WorkerId)) (w : WorkerId) → owned_from n os w ≢ [] → list_any (λ o. is_owner o w) os ≡ true

@@ -1,7 +1,8 @@
 -- How many workers a service has that was opened, and lists that grow together.
-use Rattle.std.proofs.Common.{◌≡◌, ◌∷◌, ◌++◌, ℕ, zero, suc, List, [], length, map, refl, sym, ap, ◌∙◌}
+use Rattle.std.proofs.Common.{◌≡◌, ◌∷◌, ◌++◌, ℕ, zero, suc, List, [], Option, length, map, refl, sym, ap, ◌∙◌}
 use Rattle.std.proofs.lemmas.List.{length-map, map-append}
 use Rattle.lock_journal.specs.BookView.{BookView}
+use Rattle.resource_lock.specs.declared.ids.LockId.{LockId}
 use Rattle.coordination.specs.Passes.{PassView}
 use Rattle.coordination.specs.Sights.{sights_from}
 use Rattle.planned_work.specs.Opened.{IsOpenedFor}
@@ -12,8 +13,8 @@ length_sights : (w n : ℕ) (book : BookView) → length (sights_from w n book) 
 length_sights w zero book = refl
 length_sights w (suc n) book = ap suc (length_sights (suc w) n book)
 
-pub opened_len : (ps : List PassView) (n max locks : ℕ) → IsOpened n max locks ps → length ps ≡ n
-opened_len ps n max locks o = sym (length-map ps (λ p. p.sight)) ∙ (ap length o.passes ∙ length_sights 0 n o.book)
+pub opened_len : (ps : List PassView) (n max locks : ℕ) (all : Option LockId) → IsOpened n max locks all ps → length ps ≡ n
+opened_len ps n max locks all o = sym (length-map ps (λ p. p.sight)) ∙ (ap length o.passes ∙ length_sights 0 n o.book)
 
 pub planned_len : (p : WorkPlanView) (ps : List PassView) (n max : ℕ) → IsOpenedFor p n max ps → length ps ≡ n
 planned_len p ps n max o = sym (length-map ps (λ p. p.sight)) ∙ (ap length o.passes ∙ length_sights 0 n o.book)

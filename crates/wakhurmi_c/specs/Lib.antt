@@ -9,6 +9,7 @@ pub mod Owned
 pub mod Places
 pub mod Taken
 pub mod Texts
+pub mod Uses
 pub mod OutcomeCalls
 pub mod PlanCalls
 pub mod PlanNumbers

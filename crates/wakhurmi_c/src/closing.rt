@@ -70,6 +70,7 @@ fn gather(alloc: Global, handles: &mut [Handle], mut passes: Vec<Pass>) -> Gathe
             pass,
             workers: _,
             locks: _,
+            all: _,
             max_leases: _,
             asked: _,
             sleepers: _,

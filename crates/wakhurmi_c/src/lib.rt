@@ -30,6 +30,7 @@ mod taken_parts;
 mod taking;
 mod texts;
 mod tries;
+mod uses;
 mod workers;
 
 pub use answers::{Answer, Told};
