@@ -2,7 +2,9 @@
  *
  *     c_plan run PLANS THREADS        so many plans, each on so many threads with fewer leases: what ran, where, and each outcome; 0 threads stand for
  *                                     1 to 32, by the plan's number
- *     c_plan history PLANS THREADS    the same; prints each plan as a line of JSON, and behind it its history, for examples/plan-in-c/replay.py
+ *     c_plan history PLANS THREADS [FIRST]
+ *                                     the same; prints each plan as a line of JSON, and behind it its history, for examples/plan-in-c/replay.py. The
+ *                                     plans' numbers begin with FIRST, or 0
  *     c_plan calls                    each call in each state of a worker; refusals of a plan; a worker that comes to no more call
  *     c_plan stop ROUNDS              a stop from another thread at some moment, and by one worker behind each of its calls
  *     c_plan tasks THREADS TASKS      so many tasks of an item each; prints nanoseconds a task by the clock and by processor
@@ -453,7 +455,7 @@ static void time_items(uint32_t threads, uint32_t tasks, uint32_t items, double 
 }
 
 int main(int count, char **words) {
-    demand(count >= 2, "usage: c_plan run PLANS THREADS | history PLANS THREADS | calls | stop ROUNDS | tasks THREADS TASKS | items THREADS ITEMS [M]");
+    demand(count >= 2, "usage: c_plan run PLANS THREADS | history PLANS THREADS [FIRST] | calls | stop ROUNDS | tasks THREADS TASKS | items THREADS ITEMS [M]");
     const char *what = words[1];
     uint32_t first = count > 2 ? (uint32_t)strtoul(words[2], NULL, 10) : 1, second = count > 3 ? (uint32_t)strtoul(words[3], NULL, 10) : 1;
     if (strcmp(what, "run") == 0) {
@@ -469,7 +471,8 @@ int main(int count, char **words) {
     } else if (strcmp(what, "tasks") == 0) {
         time_items(first, second, 1, 0);
     } else if (strcmp(what, "history") == 0) {
-        for (uint32_t seed = 0; seed < first; seed++) run_plan(seed, second, true);
+        uint32_t begin = count > 4 ? (uint32_t)strtoul(words[4], NULL, 10) : 0;
+        for (uint32_t seed = begin; seed < begin + first; seed++) run_plan(seed, second, true);
     } else {
         demand(false, "a word that is known");
     }
