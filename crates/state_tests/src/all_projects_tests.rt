@@ -1,13 +1,11 @@
 //! The all-projects lock: who owns it owns alone.
-ghost use Rattle.std.specs.Prelude.{◌≡◌, IfOk, length, replicate};
-ghost use Rattle.resource_lock.specs.Change.{NamesOnly};
+ghost use Rattle.std.specs.Prelude.{◌≡◌, IfOk, length};
 ghost use Rattle.resource_lock.specs.Shape.{BelongsTo};
-ghost use Rattle.resource_lock.specs.StateView.{empty_holding};
 ghost use Rattle.ready_work.specs.ReadyWork.{IsIndexOf};
 
 use crate::fitting::fitting_graph;
 use crate::indexed::{Indexed, open_index};
-use crate::lock_calls::{give_back, try_for};
+use crate::lock_calls::{Call, all_go};
 use crate::rows::{Limits, TaskRow};
 use ready_work::ReadyWork;
 use resource_lock::{
@@ -28,35 +26,37 @@ const LIMITS: Limits = Limits {
 // The state of a run of two projects as it opens.
 fn opening(rt: &impl Abort, alloc: Global) -> Result<Box<State>, AllocError>
     ensures locks { IfOk result (λ state. length state.value.owners ≡ 3) }
-    ensures empty { IfOk result (λ state. state.value.holdings ≡ replicate 2 empty_holding) }
+    ensures workers { IfOk result (λ state. length state.value.holdings ≡ 2) }
 {
     let graph = fitting_graph(rt, alloc, &LIMITS, &[], &[])?;
     Ok(Box::new(alloc, State::opening(alloc, &graph)?)?)
 }
 
-// Whether a worker that owns a lock takes the all-projects lock, which no other does, and keeps others
-// from their locks until it gives it back.
-fn is_owned_alone(state: &mut State) -> bool
-    requires locks { length state.old.owners ≡ 3 }
-    requires empty { state.old.holdings ≡ replicate 2 empty_holding }
-{
-    let (first, second) = (WorkerId(0), WorkerId(1));
-    let (own, other, all) = (LockId(0), LockId(1), LockId(2));
-    let begins = try_for(state, first, own);
-    let beside = try_for(state, second, all);
-    let takes = try_for(state, first, all);
-    let meanwhile = try_for(state, second, other);
-    let is_kept = state.kept_from(second, other) && !state.kept_from(first, other);
-    give_back(state, first, all);
-    let later = try_for(state, second, other);
-    begins && !beside && takes && !meanwhile && is_kept && later
-}
+/// The locks of two projects, and the all-projects lock.
+const OWN: LockId = LockId(0);
+
+const OTHER: LockId = LockId(1);
+
+const ALL: LockId = LockId(2);
+
+/// A worker that owns a lock takes the all-projects lock, which no other does, and keeps others from their locks until it gives it
+/// back.
+static CALLS: [(u32, Call); 8] = [
+    (0, Call::TryLock(OWN, true)),
+    (1, Call::TryLock(ALL, false)),
+    (0, Call::TryLock(ALL, true)),
+    (1, Call::TryLock(OTHER, false)),
+    (1, Call::IsKept(OTHER, true)),
+    (0, Call::IsKept(OTHER, false)),
+    (0, Call::Unlock(ALL)),
+    (1, Call::TryLock(OTHER, true)),
+];
 
 #[test]
 fn the_all_projects_lock_is_owned_alone(rt: HostRuntime) -> Result<(), AllocError> {
     owners_of_conflicting_locks_keep_others_from_them();
     let mut state = opening(&rt, rt.alloc())?;
-    assert!(rt; state.all() == Some(LockId(2)) && is_owned_alone(&mut state));
+    assert!(rt; state.all() == Some(ALL) && all_go(&mut state, 2, 3, &CALLS));
     Ok(())
 }
 
@@ -81,16 +81,29 @@ fn action(task: u32) -> GraphAction {
     }
 }
 
-// Makes a change of worker 0 where it can be made, and has the index follow.
-fn make_change(graph: &Graph, state: &mut State, ready: &mut ReadyWork, change: Change) -> bool
+// Has worker 0 take a lock or give it back where it can, and the index follow.
+fn take_or_give(
+    graph: &Graph,
+    state: &mut State,
+    ready: &mut ReadyWork,
+    takes: bool,
+    lock: LockId,
+) -> bool
     requires belongs { BelongsTo graph.now state.old }
     requires index { IsIndexOf graph.now state.old ready.old }
-    requires named { NamesOnly state.old change }
     ensures belongs { BelongsTo graph.now state.new }
     ensures index { IsIndexOf graph.now state.new ready.new }
 {
     let worker = WorkerId(0);
-    if graph.workers() == 0 || !state.can(worker, change) {
+    if graph.workers() == 0 || lock.0 >= graph.locks() {
+        return false;
+    }
+    let change = if takes {
+        Change::Lock(lock)
+    } else {
+        Change::Unlock(lock)
+    };
+    if !state.can(worker, change) {
         return false;
     }
     state.make(worker, change);
@@ -98,32 +111,36 @@ fn make_change(graph: &Graph, state: &mut State, ready: &mut ReadyWork, change: 
     true
 }
 
-// Whether the task to start goes by who owns which lock: none while the all-projects lock is owned, and
-// not that with it while another is.
+/// Whether worker 0 takes or gives back a lock, and then the first task to start: none while the all-projects lock is owned, and
+/// not that with it while another is.
+static OWNERS: [(bool, LockId, Option<u32>); 4] = [
+    (true, OWN, Some(2)),
+    (false, OWN, Some(0)),
+    (true, ALL, None),
+    (false, ALL, Some(0)),
+];
+
+// Whether the task to start goes by who owns which lock.
 fn starts_by_owners(all: &mut Indexed) -> bool
     requires belongs { BelongsTo all.old.graph.value all.old.state }
     requires index { IsIndexOf all.old.graph.value all.old.state all.old.ready }
-    requires locks { all.old.graph.value.locks ≡ 3 }
 {
     let Indexed {
         graph,
         state,
         ready,
     } = all;
-    let (own, all) = (LockId(0), LockId(2));
-    let at_first = ready.first_to_start(state);
-    let takes = make_change(graph, state, ready, Change::Lock(own));
-    let beside = ready.first_to_start(state);
-    let turns = make_change(graph, state, ready, Change::Unlock(own))
-        && make_change(graph, state, ready, Change::Lock(all));
-    let meanwhile = ready.first_to_start(state);
-    let gives = make_change(graph, state, ready, Change::Unlock(all));
-    let later = ready.first_to_start(state);
-    takes
-        && turns
-        && gives
-        && (at_first, beside) == (Some(0), Some(2))
-        && (meanwhile, later) == (None, Some(0))
+    if ready.first_to_start(state) != Some(0) {
+        return false;
+    }
+    for (takes, lock, first) in &OWNERS {
+        if !take_or_give(graph, state, ready, *takes, *lock)
+            || ready.first_to_start(state) != *first
+        {
+            return false;
+        }
+    }
+    true
 }
 
 #[test]

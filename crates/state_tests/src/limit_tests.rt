@@ -9,22 +9,6 @@ use resource_lock::{
 };
 use std::alloc::{AllocError, Global};
 
-// Whether a graph of so many locks, workers and leases fits, which has no tasks.
-fn fits_without_tasks(
-    none: &GraphTasks,
-    locks: u32,
-    all: Option<LockId>,
-    workers: u32,
-    max_leases: u32,
-) -> bool {
-    Graph::fits(locks, all, workers, max_leases, none, &[])
-}
-
-// Whether a graph of these tasks and actions fits, for one worker.
-fn fits_of_tasks(tasks: &GraphTasks, actions: &[GraphAction]) -> bool {
-    Graph::fits(1, None, 1, 1, tasks, actions)
-}
-
 #[test]
 fn the_limits_are_those_of_a_large_machine(rt: HostRuntime) {
     assert!(rt; (MAX_WORKERS, MAX_LEASES, MAX_LOCKS) == (256, 256, 65_536));
@@ -32,17 +16,25 @@ fn the_limits_are_those_of_a_large_machine(rt: HostRuntime) {
     assert!(rt; (MAX_UNITS, MAX_ACTIONS_PER_TASK) == (4_194_304, 1_048_576));
 }
 
+const LAST: Option<LockId> = Some(LockId(MAX_LOCKS - 1));
+
+/// How many locks a graph without tasks has, which of them is the all-projects lock, how many workers and leases, and whether it
+/// fits. The all-projects lock is one of the locks.
+static LIMITS: [(u32, Option<LockId>, u32, u32, bool); 6] = [
+    (MAX_LOCKS, LAST, MAX_WORKERS, MAX_LEASES, true),
+    (MAX_LOCKS, LAST, MAX_WORKERS + 1, MAX_LEASES, false),
+    (MAX_LOCKS, LAST, MAX_WORKERS, MAX_LEASES + 1, false),
+    (MAX_LOCKS, None, 1, 1, true),
+    (MAX_LOCKS + 1, None, 1, 1, false),
+    (MAX_LOCKS, Some(LockId(MAX_LOCKS)), 1, 1, false),
+];
+
 #[test]
 fn one_worker_or_lease_or_lock_more_is_refused(rt: HostRuntime) {
     let none = GraphTasks::none(rt.alloc());
-    let last = Some(LockId(MAX_LOCKS - 1));
-    assert!(rt; fits_without_tasks(&none, MAX_LOCKS, last, MAX_WORKERS, MAX_LEASES));
-    assert!(rt; !fits_without_tasks(&none, MAX_LOCKS, last, MAX_WORKERS + 1, MAX_LEASES));
-    assert!(rt; !fits_without_tasks(&none, MAX_LOCKS, last, MAX_WORKERS, MAX_LEASES + 1));
-    assert!(rt; fits_without_tasks(&none, MAX_LOCKS, None, 1, 1));
-    assert!(rt; !fits_without_tasks(&none, MAX_LOCKS + 1, None, 1, 1));
-    // The all-projects lock is one of them.
-    assert!(rt; !fits_without_tasks(&none, MAX_LOCKS, Some(LockId(MAX_LOCKS)), 1, 1));
+    for (locks, all, workers, max_leases, fits) in &LIMITS {
+        assert!(rt; Graph::fits(*locks, *all, *workers, *max_leases, &none, &[]) == *fits);
+    }
 }
 
 // A task of so many actions, from the first on.
@@ -74,62 +66,75 @@ fn many_tasks(alloc: Global, count: u32) -> Result<GraphTasks, AllocError> {
     Ok(tasks)
 }
 
-#[test]
-fn one_task_more_is_refused(rt: HostRuntime) -> Result<(), AllocError> {
-    let mut tasks = many_tasks(rt.alloc(), MAX_TASKS as u32)?;
-    assert!(rt; fits_of_tasks(&tasks, &[]));
-    tasks.push(task(0), &[])?;
-    assert!(rt; !fits_of_tasks(&tasks, &[]));
-    Ok(())
-}
-
-// Whether a task fits that comes so often after the one before it.
-fn fits_with_names(alloc: Global, names: usize) -> Result<bool, AllocError> {
+// A task, and one that comes so often after it.
+fn task_after(alloc: Global, names: usize) -> Result<GraphTasks, AllocError> {
     let mut tasks = task_of_actions(alloc, 0)?;
     let after = vec![in alloc; 0; names]?;
     tasks.push(task(0), &after)?;
-    Ok(fits_of_tasks(&tasks, &[]))
+    Ok(tasks)
 }
 
+/// How large a graph is.
+#[derive(Clone, Copy)]
+enum Size {
+    /// So many tasks without actions.
+    Tasks(u32),
+    /// A task that comes so often after the one before it.
+    Names(usize),
+    /// A task of so many actions, each of them with so many items.
+    Actions(u32, u32),
+}
+
+// Whether a graph of this size fits, for one worker.
+fn fits(alloc: Global, size: Size) -> Result<bool, AllocError> {
+    let (tasks, actions) = match size {
+        Size::Tasks(count) => (many_tasks(alloc, count)?, Vec::new(alloc)),
+        Size::Names(names) => (task_after(alloc, names)?, Vec::new(alloc)),
+        Size::Actions(count, items) => {
+            let actions = actions_of(alloc, count, items)?;
+            (task_of_actions(alloc, count)?, actions)
+        }
+    };
+    Ok(Graph::fits(1, None, 1, 1, &tasks, &actions))
+}
+
+const UNITS: u32 = MAX_UNITS as u32;
+
+/// At each limit, and over it by one. As many units as may be are those of one action, or of many.
+static SIZES: [(Size, bool); 10] = [
+    (Size::Tasks(MAX_TASKS as u32), true),
+    (Size::Tasks(MAX_TASKS as u32 + 1), false),
+    (Size::Names(MAX_AFTER), true),
+    (Size::Names(MAX_AFTER + 1), false),
+    (Size::Actions(MAX_ACTIONS_PER_TASK, 1), true),
+    (Size::Actions(MAX_ACTIONS_PER_TASK + 1, 1), false),
+    (Size::Actions(1, UNITS), true),
+    (Size::Actions(1, UNITS + 1), false),
+    (Size::Actions(1_024, UNITS / 1_024), true),
+    (Size::Actions(1_025, UNITS / 1_024), false),
+];
+
 #[test]
-fn one_name_more_in_after_is_refused(rt: HostRuntime) -> Result<(), AllocError> {
-    assert!(rt; fits_with_names(rt.alloc(), MAX_AFTER)?);
-    assert!(rt; !fits_with_names(rt.alloc(), MAX_AFTER + 1)?);
+fn one_task_or_name_or_action_or_unit_more_is_refused(rt: HostRuntime) -> Result<(), AllocError> {
+    for (size, is_fit) in &SIZES {
+        assert!(rt; fits(rt.alloc(), *size)? == *is_fit);
+    }
     Ok(())
 }
 
-// Whether a task fits that has so many actions, each of them with so many items.
-fn fits_with_actions(alloc: Global, actions: u32, items: u32) -> Result<bool, AllocError> {
-    let tasks = task_of_actions(alloc, actions)?;
-    let rows = actions_of(alloc, actions, items)?;
-    Ok(fits_of_tasks(&tasks, &rows))
-}
-
-#[test]
-fn one_action_more_of_a_task_is_refused(rt: HostRuntime) -> Result<(), AllocError> {
-    assert!(rt; fits_with_actions(rt.alloc(), MAX_ACTIONS_PER_TASK, 1)?);
-    assert!(rt; !fits_with_actions(rt.alloc(), MAX_ACTIONS_PER_TASK + 1, 1)?);
-    Ok(())
-}
-
-#[test]
-fn one_unit_more_is_refused(rt: HostRuntime) -> Result<(), AllocError> {
-    let units = MAX_UNITS as u32;
-    assert!(rt; fits_with_actions(rt.alloc(), 1, units)?);
-    assert!(rt; !fits_with_actions(rt.alloc(), 1, units + 1)?);
-    // Also where many actions have them.
-    assert!(rt; fits_with_actions(rt.alloc(), 1_024, units / 1_024)?);
-    assert!(rt; !fits_with_actions(rt.alloc(), 1_025, units / 1_024)?);
-    Ok(())
-}
-
-// A book of these tasks, without actions, for one worker.
-fn book_of(alloc: Global, tasks: GraphTasks) -> Result<Option<Box<Book>>, AllocError> {
+// A book of these tasks, without actions, for so many locks, workers and leases.
+fn book_of(
+    alloc: Global,
+    locks: u32,
+    workers: u32,
+    max_leases: u32,
+    tasks: GraphTasks,
+) -> Result<Option<Box<Book>>, AllocError> {
     let actions = Vec::new(alloc);
-    if !Graph::fits(1, None, 1, 1, &tasks, &actions) {
+    if !Graph::fits(locks, None, workers, max_leases, &tasks, &actions) {
         return Ok(None);
     }
-    let graph = Graph::new(1, None, 1, 1, tasks, actions);
+    let graph = Graph::new(locks, None, workers, max_leases, tasks, actions);
     let book = Book::opening(alloc, graph, 0, 0)?;
     Ok(Some(Box::new(alloc, book)?))
 }
@@ -151,8 +156,11 @@ fn begins(book: &mut Book) -> Result<bool, AllocError> {
 #[test]
 fn a_book_of_as_many_tasks_as_may_be_begins(rt: HostRuntime) -> Result<(), AllocError> {
     let tasks = many_tasks(rt.alloc(), MAX_TASKS as u32)?;
-    let mut book = book_of(rt.alloc(), tasks)?.expect(&rt, "a graph that fits");
-    assert!(rt; book.graph().tasks().len() == MAX_TASKS && begins(&mut book)?);
+    let mut book = book_of(rt.alloc(), 1, 1, 1, tasks)?.expect(&rt, "a graph that fits");
+    let has_all = book.graph().tasks().len() == MAX_TASKS;
+    let begins = begins(&mut book);
+    drop(book);
+    assert!(rt; has_all && begins?);
     Ok(())
 }
 
@@ -198,28 +206,48 @@ fn hand_back_all(book: &mut Book) -> Result<bool, AllocError> {
     Ok(book.state().leases_out() == 0)
 }
 
-// A book of as many workers, leases and locks as may be.
-fn full_book(alloc: Global) -> Result<Option<Box<Book>>, AllocError> {
-    let (tasks, actions) = (GraphTasks::none(alloc), Vec::new(alloc));
-    if !Graph::fits(MAX_LOCKS, None, MAX_WORKERS, MAX_LEASES, &tasks, &actions) {
-        return Ok(None);
+/// A worker, a lock that it takes with a lease, and what comes of it.
+type Take = (u32, u32, Disposition);
+
+// Whether workers take locks as they have to.
+fn take_as(book: &mut Book, takes: &[Take]) -> Result<bool, AllocError> {
+    for (worker, lock, disposition) in takes {
+        if take(book, *worker, *lock)? != *disposition {
+            return Ok(false);
+        }
     }
-    let graph = Graph::new(MAX_LOCKS, None, MAX_WORKERS, MAX_LEASES, tasks, actions);
-    let book = Book::opening(alloc, graph, 0, 0)?;
-    Ok(Some(Box::new(alloc, book)?))
+    Ok(true)
+}
+
+/// Where each worker has a lock: of what another has none gets anything, and each may take the last lock beside its own.
+static BESIDE: [Take; 3] = [
+    (0, 255 * (MAX_LOCKS / MAX_WORKERS), Disposition::Failed),
+    (0, MAX_LOCKS - 1, Disposition::Finished),
+    (1, MAX_LOCKS - 1, Disposition::Failed),
+];
+
+/// Where all is handed back.
+static AFTERWARDS: [Take; 1] = [(1, MAX_LOCKS - 1, Disposition::Finished)];
+
+// Whether each worker can have a lease and a lock beside all others, and hand them back.
+fn serves_all(book: &mut Book) -> Result<bool, AllocError> {
+    Ok(
+        take_all(book)?
+            && take_as(book, &BESIDE)?
+            && hand_back_all(book)?
+            && take_as(book, &AFTERWARDS)?,
+    )
 }
 
 #[test]
 fn as_many_workers_as_may_be_have_a_lease_and_a_lock_each(
     rt: HostRuntime,
 ) -> Result<(), AllocError> {
-    let mut book = full_book(rt.alloc())?.expect(&rt, "a graph that fits");
-    assert!(rt; take_all(&mut book)?);
-    // Of what another has none gets anything, and each may take the last lock beside its own.
-    assert!(rt; take(&mut book, 0, lock_of(255))? == Disposition::Failed);
-    assert!(rt; take(&mut book, 0, MAX_LOCKS - 1)? == Disposition::Finished);
-    assert!(rt; take(&mut book, 1, MAX_LOCKS - 1)? == Disposition::Failed);
-    assert!(rt; hand_back_all(&mut book)?);
-    assert!(rt; take(&mut book, 1, MAX_LOCKS - 1)? == Disposition::Finished);
+    let tasks = GraphTasks::none(rt.alloc());
+    let opened = book_of(rt.alloc(), MAX_LOCKS, MAX_WORKERS, MAX_LEASES, tasks)?;
+    let mut book = opened.expect(&rt, "a graph that fits");
+    let serves = serves_all(&mut book);
+    drop(book);
+    assert!(rt; serves?);
     Ok(())
 }

@@ -1,12 +1,12 @@
 //! Graphs, and the changes of their states.
-ghost use Rattle.std.specs.Prelude.{◌≡◌, IfOk, replicate, true};
+ghost use Rattle.std.specs.Prelude.{◌≡◌, IfOk, length, true};
 ghost use Rattle.resource_lock.specs.Change.{NamesOnly, can, make};
-ghost use Rattle.resource_lock.specs.StateView.{IsWorkerOf, empty_holding};
+ghost use Rattle.resource_lock.specs.StateView.{IsWorkerOf};
 ghost use Rattle.state_tests.specs.Sizes.{HasSizes};
 
 use crate::fitting::fitting_graph;
 use crate::graphs::tasks_of;
-use crate::lock_calls::{give_back, try_for};
+use crate::lock_calls::{Call, all_go};
 use crate::rows::{Limits, TaskRow};
 use resource_lock::{
     Change, Graph, GraphAction, LockId, MAX_LEASES, MAX_LOCKS, MAX_WORKERS, Mark, MarkId,
@@ -220,31 +220,39 @@ fn fits_refuses_each_fault(rt: HostRuntime) -> Result<(), AllocError> {
 
 // The state of the graph as it opens.
 fn opening(rt: &impl Abort, alloc: Global) -> Result<Box<State>, AllocError>
-    ensures sizes { IfOk result (λ state. HasSizes state.value) }
-    ensures empty { IfOk result (λ state. state.value.holdings ≡ replicate 3 empty_holding) }
+    ensures { IfOk result (λ state. HasSizes state.value) }
 {
     let graph = fitting_graph(rt, alloc, &LIMITS, &TASKS, &ACTIONS)?;
     Ok(Box::new(alloc, State::opening(alloc, &graph)?)?)
 }
 
-// Whether a lock is its owner's alone.
-fn is_owned_alone(state: &mut State) -> bool
-    requires sizes { HasSizes state.old }
-    requires empty { state.old.holdings ≡ replicate 3 empty_holding }
-{
-    let (owner, other, lock) = (WorkerId(0), WorkerId(1), LockId(0));
-    let first = try_for(state, owner, lock);
-    let again = try_for(state, owner, lock);
-    let others = try_for(state, other, lock);
-    give_back(state, other, lock);
-    first && again && !others && state.owner(lock) == Some(owner)
-}
+/// The locks of the state.
+const LOCK: LockId = LockId(0);
+
+/// A lock is its owner's alone.
+static OWNED_ALONE: [(u32, Call); 5] = [
+    (0, Call::TryLock(LOCK, true)),
+    (0, Call::TryLock(LOCK, true)),
+    (1, Call::TryLock(LOCK, false)),
+    (1, Call::Unlock(LOCK)),
+    (1, Call::IsKept(LOCK, true)),
+];
+
+/// No more leases are out than may be.
+static LEASES_LIMITED: [(u32, Call); 6] = [
+    (0, Call::TryLease(true, 1)),
+    (1, Call::TryLease(true, 2)),
+    (2, Call::TryLease(false, 2)),
+    (0, Call::TryLease(true, 2)),
+    (0, Call::GiveLease),
+    (2, Call::TryLease(true, 2)),
+];
 
 // Whether a state tells of a worker whether it runs something.
 fn tells_who_runs(state: &mut State) -> bool
     requires { HasSizes state.old }
-    ensures sizes { HasSizes state.new }
-    ensures same { state.new.holdings ≡ state.old.holdings }
+    ensures locks { length state.new.owners ≡ 2 }
+    ensures workers { length state.new.holdings ≡ 3 }
 {
     let (worker, task) = (WorkerId(2), MarkId::Task(0));
     let start = Change::Move(task, Mark::Waiting, Mark::Running(worker));
@@ -256,22 +264,6 @@ fn tells_who_runs(state: &mut State) -> bool
     let has_more = state.runs_unit(worker) || state.is_parked(worker) || state.owns_any(worker);
     let are_idle = (state.is_idle(worker), state.is_idle(WorkerId(1)));
     state.mark(task) == Mark::Running(worker) && runs && !has_more && are_idle == (false, true)
-}
-
-// Whether no more leases are out than may be.
-fn are_leases_limited(state: &mut State) -> bool
-    requires sizes { HasSizes state.old }
-    requires empty { state.old.holdings ≡ replicate 3 empty_holding }
-    ensures { HasSizes state.new }
-{
-    let [first, second, third] = [WorkerId(0), WorkerId(1), WorkerId(2)];
-    let two = state.try_lease(first) && state.try_lease(second);
-    let more = state.try_lease(third);
-    let again = state.try_lease(first);
-    let out = state.leases_out();
-    state.give(first);
-    let next = state.try_lease(third);
-    two && !more && again && out == 2 && next && !state.has_lease(first)
 }
 
 // Makes a change where it can be made.
@@ -290,7 +282,8 @@ fn try_make(state: &mut State, worker: WorkerId, change: Change) -> bool
 
 // Whether changes can be taken back.
 fn are_taken_back(state: &mut State) -> bool
-    requires { HasSizes state.old }
+    requires locks { length state.old.owners ≡ 2 }
+    requires workers { length state.old.holdings ≡ 3 }
 {
     let (worker, lock) = (WorkerId(0), LockId(1));
     if state.has_parked(worker, lock) || !state.try_lock(worker, lock) || state.leases_out() != 2 {
@@ -314,10 +307,12 @@ fn are_taken_back(state: &mut State) -> bool
 
 #[test]
 fn a_state_follows_its_workers(rt: HostRuntime) -> Result<(), AllocError> {
-    assert!(rt; is_owned_alone(&mut *opening(&rt, rt.alloc())?));
+    assert!(rt; all_go(&mut *opening(&rt, rt.alloc())?, 3, 2, &OWNED_ALONE));
     let mut state = opening(&rt, rt.alloc())?;
     assert!(rt;
-        tells_who_runs(&mut state) && are_leases_limited(&mut state) && are_taken_back(&mut state)
+        tells_who_runs(&mut state)
+            && all_go(&mut state, 3, 2, &LEASES_LIMITED)
+            && are_taken_back(&mut state)
     );
     Ok(())
 }
