@@ -6,7 +6,7 @@ use Rattle.coordination.specs.declared.parts.Notes.{Notes}
 use Rattle.coordination.specs.declared.parts.WorkerPart.{WorkerPart}
 use Rattle.coordination.specs.declared.rule.Sight.{Sight}
 use Rattle.coordination.specs.Agrees.{Agrees}
-use Rattle.coordination.specs.Parts.{HasLockRoom, HasRoom, IsPartOf, IsSamePart}
+use Rattle.coordination.specs.Parts.{HasLockRoom, HasRoom, IsPartOf}
 use Rattle.history_views.specs.ShownBooks.{IsTold}
 use Rattle.coordination.specs.Passes.{IsPass, me_in, view_in}
 use Rattle.coordination.specs.declared.rule.SeatView.{SeatView}
@@ -22,26 +22,9 @@ part_on w seen book part a p = record {
   last = p.last ∙ sym a.last;
 }
 
--- a part whose lists have other room says the same
-pub part_same : (w : WorkerId) (book : BookView) (old new : WorkerPart) → IsSamePart old new → IsPartOf book w old → IsPartOf book w new
-part_same w book old new same p = record {
-  has = record { holding = same.holding ∙ p.has.holding; locks = same.locks ∙ p.has.locks; claimed = ap (λ v. v.items) same.claimed ∙ p.has.claimed };
-  last = same.last ∙ p.last;
-}
-
 -- room for fewer
 pub room_for_fewer : (less more : ℕ) (part : WorkerPart) → less ≤ more → HasLockRoom more part → HasLockRoom less part
 room_for_fewer less more part le room = record { lock_room = omega (arith, le, room.lock_room); park_room = omega (arith, le, room.park_room) }
-
--- a pass whose part has other room
-pub other_room : (worker : WorkerId) (notes notes' : Notes) (me : M) → IsPass worker notes me → IsSamePart notes.part notes'.part → HasRoom notes'.part → notes'.reach ≡ notes.reach → IsPass worker notes' me
-other_room worker notes notes' me p same room reach = record {
-  lone = p.lone;
-  worker_is = p.worker_is;
-  part_is = part_same (sight_of me.0).worker (sight_of me.0).seen notes.part notes'.part same p.part_is;
-  room = room;
-  told = subst (λ (r : Option ReachView). IsTold me.0.ledger r (sight_of me.0).seen) (sym reach) p.told;
-}
 
 -- a seat that is alone again is a pass
 pub closes_pass : (worker : WorkerId) (notes : Notes) (me : M) (l : Option Ledger) (k s : Sight) → me ≡ (one l k, []) → sight_of me.0 ≡ s → worker ≡ s.worker → IsPartOf s.seen s.worker notes.part
