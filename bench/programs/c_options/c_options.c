@@ -10,7 +10,7 @@ enum { MOST = 4, PROJECTS = 3, MAX_THREADS = 32, SERVICES = 3 };
 
 /* In nanoseconds: where a wait is sure to have begun, and where it is sure to have ended. A call is kept back for 100 ms at most. */
 #define A_WHILE (SECOND / 50)
-#define LONG (60 * SECOND)
+#define LONG (20 * SECOND)
 #define MOST_KEPT_BACK (SECOND / 1000 * 80)
 
 static const uint32_t maxima[SERVICES] = {2, 1, 3};
@@ -170,6 +170,27 @@ static void demand_waits_for_uses(void) {
     EXPECT(OK, take_uses(0, first, 1));
     EXPECT(STOPPED, take_uses(2, first, 1));
     wakhurmi_close(service);
+}
+
+/* Two calls that wait for a use of one service get the two that are given back at once: neither has to wait for the other. */
+static void demand_both_woken(void) {
+    const wakhurmi_options options = with_maxima(4);
+    static const uint32_t first[1] = {0};
+    for (int round = 0; round < 10; round++) {
+        waiting calls[2] = {{.call = take_uses_until, .numbers = first, .count = 1}, {.call = take_uses_until, .numbers = first, .count = 1}};
+        pthread_t threads[2];
+        EXPECT(OK, wakhurmi_open_with(&options, &service));
+        for (uint32_t at = 0; at < 2; at++) EXPECT(OK, take_uses(at, first, 1));
+        for (uint32_t at = 0; at < 2; at++) {
+            calls[at].worker = 2 + at;
+            threads[at] = start(make_call, &calls[at]);
+        }
+        sleep_for(A_WHILE / 2);
+        for (uint32_t at = 0; at < 2; at++) EXPECT(OK, round % 2 == 0 ? wakhurmi_hand_back(service, at) : wakhurmi_enter(service, at));
+        for (uint32_t at = 0; at < 2; at++) pthread_join(threads[at], NULL);
+        for (uint32_t at = 0; at < 2; at++) expect(WAKHURMI_OK, calls[at].answer, "one of two calls that wait for one service");
+        wakhurmi_close(service);
+    }
 }
 
 /* How long a call took that was kept back for one that is queued, in nanoseconds: of the service that both use another use is free, so it goes on once
@@ -373,6 +394,7 @@ int main(int count, char **words) {
         demand_ranges_of_maxima();
         demand_uses();
         demand_waits_for_uses();
+        demand_both_woken();
         demand_kept_back_goes_on();
         demand_kept(false, true);
         demand_kept(true, false);
