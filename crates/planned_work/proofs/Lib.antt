@@ -8,6 +8,7 @@ pub mod GraphSteps
 pub mod Held
 pub mod InPlace
 pub mod KeptInPlace
+pub mod LastReleases
 pub mod Leaving
 pub mod Left
 pub mod LocksKept

@@ -1,5 +1,5 @@
 -- The calls of a worker of a plan are never refused by the rules.
-use Rattle.std.proofs.Common.{◌≡◌, ℕ, ◌⊎◌, true, false, ◌||◌, Option, None, Some, inl, inr, refl, sym, ap, ◌∙◌, subst, arith}
+use Rattle.std.proofs.Common.{◌≡◌, ◌≢◌, ℕ, ◌⊎◌, true, false, ◌||◌, Option, None, Some, inl, inr, refl, sym, ap, ◌∙◌, subst, arith}
 use Rattle.std.specs.List.{list_all}
 use Rattle.std.proofs.lemmas.Bool.{and_from, and_parts, cases_eq, eq-eqb, false≢true, not_from_false}
 use Rattle.item_actions.specs.declared.outcomes.Outcome.TheVariants as outcomes
@@ -30,19 +30,22 @@ use Rattle.async_tracker.proofs.AtOnce.{next_end}
 use Rattle.async_tracker.proofs.Claiming.{close_never_waits}
 use Rattle.async_tracker.proofs.TaskActions.{all_range}
 use Rattle.async_tracker.proofs.TaskSteps.{cannot_skip}
-use Rattle.planned_work.specs.Done.{ClosedAlone, DoneIn, DoneLeaves, DoneNextIn, DoneNextLeaves, TakeUpLeaves, closed_as, next_of_answer}
+use Rattle.planned_work.specs.Done.{CloseLeaves, ClosedAlone, DoneIn, DoneLeaves, DoneNextIn, DoneNextLeaves, TakeUpLeaves, closed_as, next_of_answer}
+use Rattle.planned_work.specs.Fitting.{IsPlanFit}
 use Rattle.planned_work.specs.InPlace.{HasReleasedTask, ReleasesLast}
 use Rattle.planned_work.specs.Next.{IsIdleChoice, IsMove, IsParkedChoice, IsRefused, IsStuckAt, NextLeaves}
-use Rattle.planned_work.specs.Places.{place_of, unit_in}
+use Rattle.planned_work.specs.Places.{may_enter, place_of, unit_in}
+use Rattle.planned_work.specs.Sections.{EnterLeaves}
 use Rattle.planned_work.specs.Trying.{HasToWaitFor, InBook}
 use Rattle.planned_work.specs.declared.answers.Answer.{Answer}
 use Rattle.planned_work.specs.declared.answers.Answer.TheVariants as answers
+use Rattle.planned_work.specs.declared.answers.Next.{Next}
 use Rattle.planned_work.specs.declared.answers.Next.TheVariants as nexts
 use Rattle.planned_work.specs.declared.places.Place.{Place}
 use Rattle.planned_work.specs.declared.places.Place.TheVariants as places
 use Rattle.planned_work.proofs.AtPlaces.{alone_here, here, idle_free, idle_holds, idle_rests, is_item_here, leased_here, open_here, owns_lock}
 use Rattle.planned_work.proofs.AtPlaces.{owns_to_park, parked_by, parked_free, parked_waits, reads, runs_none, runs_task_here, same_lease, unitless_here, works_here}
-use Rattle.planned_work.proofs.NeverStuck.{fetch_ends, fits_as, unit_stands}
+use Rattle.planned_work.proofs.NeverStuck.{enters_always, fetch_ends, fits_as, section_ends, unit_stands}
 use Rattle.planned_work.proofs.Order.{AreInOrder, HasCome, order_after}
 use Rattle.planned_work.proofs.Placed.{task_there}
 use Rattle.planned_work.proofs.Possible.{claim_never, comes_in_task, fetch_never, never_refused, park_never, parked_claim_never, resume_never, skip_never_waits, start_never, submit_never}
@@ -217,3 +220,24 @@ module _ (old new : Sight) (fits : Fits old.seen.graph) where
   pub done_next_never : (gave : Option ℕ) → DoneNextLeaves gave old new nexts.Stuck → ⊥
   done_next_never gave (inl h) = done_next_in (place_of old) gave refl h.1
   done_next_never gave (inr h) = alone_never (DoneIn (place_of old) gave old new) (done_in (place_of old) gave refl) h.1
+
+-- what a call answers, by what it leaves
+module _ (old new : Sight) (fit : IsPlanFit old.seen.graph) where
+  pub next_answers : (n : Next) → NextLeaves old new n → n ≢ nexts.Stuck
+  next_answers n left = λ is. next_never old new fit.fits fit.last (subst (NextLeaves old new) is left)
+
+  pub done_answers : (gave : Option ℕ) (a : Answer) → DoneLeaves gave old new a → a ≢ answers.Stuck
+  done_answers gave a left = λ is. done_never old new fit.fits gave (subst (DoneLeaves gave old new) is left)
+
+  pub item_answers : (u : ℕ) (gave : Option ℕ) (a : Answer) → (place_of old ≡ places.Item u) ⊎ ((n : ℕ) × (place_of old ≡ places.ItemIn u n)) → CloseLeaves (closed_as u gave) old new a → a ≢ answers.Stuck
+  item_answers u gave a (inl at) left = λ is. closes_item old new fit.fits u gave at (subst (CloseLeaves (closed_as u gave) old new) is left)
+  item_answers u gave a (inr at) left = λ is. closes_item_in old new fit.fits u at.0 gave at.1 (subst (CloseLeaves (closed_as u gave) old new) is left)
+
+  pub done_next_answers : (gave : Option ℕ) (n : Next) → DoneNextLeaves gave old new n → n ≢ nexts.Stuck
+  done_next_answers gave n left = λ is. done_next_never old new fit.fits gave (subst (DoneNextLeaves gave old new) is left)
+
+pub enter_answers : (old new : Sight) (a : Answer) → may_enter old ≡ true → EnterLeaves old new a → a ≢ answers.Stuck
+enter_answers old new a may left = λ is. enters_always old new may (subst (EnterLeaves old new) is left)
+
+pub leave_answers : (old new : Sight) (a : Answer) → place_of old ≡ places.Section → TakeUpLeaves None old new a → a ≢ answers.Stuck
+leave_answers old new a at left = λ is. section_ends old new at (subst (TakeUpLeaves None old new) is left)

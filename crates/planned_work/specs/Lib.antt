@@ -1,6 +1,7 @@
 -- What the contracts of planned work say.
 pub mod Deciding
 pub mod Done
+pub mod Fitting
 pub mod Graphs
 pub mod InPlace
 pub mod Next

@@ -38,7 +38,7 @@ pub enum Next {
     NoMemory,
     /// The worker isn't where it may make this call.
     Misused,
-    /// The rules give an entry that they don't allow in this book.
+    /// The rules give an entry that they don't allow in this book. No call of a `PlanWorker` answers so.
     Stuck,
 }
 
@@ -57,6 +57,6 @@ pub enum Answer {
     NoMemory,
     /// The worker isn't where it may make this call.
     Misused,
-    /// The rules don't allow the entry in this book.
+    /// The rules don't allow the entry in this book. No call of a `PlanWorker` answers so.
     Stuck,
 }

@@ -30,6 +30,7 @@ impl PlanWorker {
     pub fn done(&mut self, sleeps: bool, gave: Option<u64>) -> (Answer, Rings)
         ensures left { DoneLeaves gave self.old.pass.sight self.new.pass.sight result.0 }
         ensures closes { result.0 ≢ answers.Misused → closes (place_of self.old.pass.sight) ≡ true }
+        ensures never { result.0 ≢ answers.Stuck }
         ensures wakes { WakesBy (ends_hold result.0) self.new.pass.sight result.1 }
     {
         match place_of(&self.pass) {
@@ -50,6 +51,7 @@ impl PlanWorker {
     pub fn done_next(&mut self, sleeps: bool, gave: Option<u64>) -> (Next, Rings)
         ensures left { DoneNextLeaves gave self.old.pass.sight self.new.pass.sight result.0 }
         ensures closes { result.0 ≢ nexts.Misused → closes (place_of self.old.pass.sight) ≡ true }
+        ensures never { result.0 ≢ nexts.Stuck }
         ensures wakes { WakesBy (had_hold_closing result.0) self.new.pass.sight result.1 }
     {
         let place = place_of(&self.pass);

@@ -27,6 +27,7 @@ impl PlanWorker {
     pub fn try_next(&mut self, sleeps: bool) -> (Next, Rings)
         ensures left { NextLeaves self.old.pass.sight self.new.pass.sight result.0 }
         ensures may { result.0 ≢ nexts.Misused → may_next (place_of self.old.pass.sight) ≡ true }
+        ensures never { result.0 ≢ nexts.Stuck }
         ensures unheard { result.0 ≢ nexts.Misused → result.0 ≢ nexts.Stopped → KnowsNoStop self.old.pass.sight }
         ensures wakes { WakesBy (had_hold result.0) self.new.pass.sight result.1 }
     {

@@ -2,10 +2,10 @@
 ghost use Rattle.std.specs.Prelude.{◌≡◌, [], All, IfErr, IfOk, map};
 ghost use Rattle.std.specs.Arc.{arc_value};
 ghost use Rattle.resource_lock.specs.AtRest.{IsAtRest};
+ghost use Rattle.planned_work.specs.Fitting.{IsPlanFit};
 ghost use Rattle.planned_work.specs.Graphs.{WhyNoGraph, graph_of_plan};
 ghost use Rattle.planned_work.specs.Numbers.{without_names};
 ghost use Rattle.planned_work.specs.Opened.{IsOpenedFor, IsOpenedOn};
-ghost use Rattle.planned_work.specs.Ranks.{HasRanks};
 
 use crate::plan_graphs::numbers_of;
 use crate::plans::WorkPlan;
@@ -47,11 +47,9 @@ pub fn open_plan(
 
 // The workers of a service over the graph. It fails for want of memory alone.
 fn open_graph(alloc: Global, graph: Graph) -> Result<Vec<Box<PlanWorker>>, AllocError>
-    requires { HasRanks graph }
+    requires { IsPlanFit graph }
     ensures { IfOk result (λ all. IsOpenedOn graph (map (λ w. w.value.pass) all.items)) }
 {
-    // Of the graph, that it fits.
-    let _ = graph.tasks();
     let mut numbers = numbers_of(alloc, &graph)?;
     numbers.note_unit_actions(alloc)?;
     let numbers = Arc::new(alloc, numbers)?;
@@ -82,7 +80,7 @@ fn workers_of(
     requires service { All (λ p. p.service.table ≡ (arc_value service.now).table.shared.table_id) passes.items }
     requires seen { All (λ p. p.sight.seen ≡ (arc_value service.now).table.shared.key.kept.value.book) passes.items }
     requires numbers { arc_value numbers.now ≡ without_names (arc_value service.now).table.shared.key.kept.value.book.graph }
-    requires ranked { HasRanks (arc_value service.now).table.shared.key.kept.value.book.graph }
+    requires fit { IsPlanFit (arc_value service.now).table.shared.key.kept.value.book.graph }
     ensures { IfOk result (λ all. map (λ w. w.value.pass) all.items ≡ passes.items) }
 {
     let mut all = Vec::with_capacity(alloc, passes.len())?;
@@ -102,7 +100,7 @@ fn worker_of(
     requires service { pass.service.table ≡ (arc_value service.now).table.shared.table_id }
     requires seen { pass.sight.seen ≡ (arc_value service.now).table.shared.key.kept.value.book }
     requires numbers { arc_value numbers.now ≡ without_names pass.sight.seen.graph }
-    requires ranked { HasRanks pass.sight.seen.graph }
+    requires fit { IsPlanFit pass.sight.seen.graph }
     ensures { IfOk result (λ worker. worker.value.pass ≡ pass) }
 {
     pass.promise_to_come_again_without_work();

@@ -2,10 +2,10 @@
 ghost use Rattle.std.specs.Prelude.{◌≡◌, ◌≤◌, ◌+◌, ◌++◌, IfErr, IfOk, length, map, sum_by};
 ghost use Rattle.resource_lock.specs.declared.limits.TheConstants.{MAX_TASKS, MAX_UNITS};
 ghost use Rattle.ready_work.specs.Rank.{lists_of};
+ghost use Rattle.planned_work.specs.Fitting.{IsPlanFit};
 ghost use Rattle.planned_work.specs.Graphs.{WhyNoGraph, actions_from, actions_in, all_actions_from, graph_of_plan, rows_from};
 ghost use Rattle.planned_work.specs.Numbers.{task_without_names, without_names};
 ghost use Rattle.planned_work.specs.Plans.{planned_task_view, units_of_action, units_of_task};
-ghost use Rattle.planned_work.specs.Ranks.{HasRanks};
 
 use crate::opening::OpenRefusal;
 use crate::plans::{PlannedAction, PlannedTask, WorkPlan};
@@ -15,7 +15,7 @@ use std::alloc::{AllocError, Global};
 
 impl WorkPlan {
     /// The graph of the plan, for so many workers and leases: with one lock more than the plan has, the last of which is the all-projects
-    /// lock. Each task has a rank.
+    /// lock. Each task has a rank, and no action but the last of its task releases.
     ///
     /// `BadNumber` says that there is no such graph: the numbers aren't in range. `Cycle` says that some task has no rank, since it comes
     /// after itself, or after one that does. It takes time and memory that are linear in the plan.
@@ -26,7 +26,7 @@ impl WorkPlan {
         max_leases: u32,
     ) -> Result<Graph, OpenRefusal>
         ensures graph { IfOk result (λ g. g ≡ graph_of_plan self.now workers max_leases) }
-        ensures ranked { IfOk result (λ g. HasRanks g) }
+        ensures fit { IfOk result (λ g. IsPlanFit g) }
         ensures err { IfErr result (WhyNoGraph self.now workers max_leases) }
     {
         let Ok(tasks) = graph_tasks(alloc, self.tasks(), self.after()) else {

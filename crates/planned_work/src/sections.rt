@@ -23,6 +23,7 @@ impl PlanWorker {
     pub fn enter(&mut self) -> (Answer, Rings)
         ensures left { EnterLeaves self.old.pass.sight self.new.pass.sight result.0 }
         ensures may { result.0 ≢ answers.Misused → may_enter self.old.pass.sight ≡ true }
+        ensures never { result.0 ≢ answers.Stuck }
         ensures wakes { WakesBy (ends_hold result.0) self.new.pass.sight result.1 }
     {
         let works = matches!(place_of(&self.pass), Place::InTask(_) | Place::Outside);
@@ -39,6 +40,7 @@ impl PlanWorker {
     pub fn leave(&mut self, sleeps: bool) -> (Answer, Rings)
         ensures left { LeaveLeaves self.old.pass.sight self.new.pass.sight result.0 }
         ensures may { result.0 ≢ answers.Misused → may_leave (place_of self.old.pass.sight) ≡ true }
+        ensures never { result.0 ≢ answers.Stuck }
         ensures wakes { WakesBy (ends_hold result.0) self.new.pass.sight result.1 }
     {
         match place_of(&self.pass) {

@@ -5,9 +5,9 @@ ghost use Rattle.resource_lock.specs.StateView.{leases_out};
 ghost use Rattle.coordination.specs.Calls.{HasStopped, IsAnswered};
 ghost use Rattle.coordination.specs.Stops.{KnowsNoStop};
 ghost use Rattle.coordination.specs.Sights.{hearing};
+ghost use Rattle.planned_work.specs.Fitting.{IsPlanFit, IsPlanFit-prop};
 ghost use Rattle.planned_work.specs.Rings.{WakesBy};
 ghost use Rattle.planned_work.specs.Numbers.{without_names};
-ghost use Rattle.planned_work.specs.Ranks.{HasRanks, HasRanks-prop};
 
 use crate::questions::LeasesOut;
 use crate::rings::Rings;
@@ -29,8 +29,8 @@ pub struct PlanWorker {
     pub numbers: Arc<Graph, Global>,
     ghost own: { pass.service.table ≡ (arc_value service).table.shared.table_id },
     ghost numbered: { arc_value numbers ≡ without_names pass.sight.seen.graph },
-    // Each task has a rank: so the plan can come to its end.
-    ghost ranked: { HasRanks pass.sight.seen.graph } by { HasRanks-prop pass.sight.seen.graph },
+    // So the plan can come to its end, and the rules refuse no call.
+    ghost fit: { IsPlanFit pass.sight.seen.graph } by { IsPlanFit-prop pass.sight.seen.graph },
     ghost seen_workers: { workers ≡ pass.sight.seen.graph.workers },
     ghost workers_are: { workers ≡ (arc_value service).table.shared.key.kept.value.book.graph.workers },
 }

@@ -40,7 +40,7 @@ loop-handle-preserved c =
           ∙ (ap (λ (h : PlannedHandle). h.held.worker.workers) (same_at c.loop-handle.handles hs i item inv.3) ∙ are i item low))),
       tt,
       subst (All (λ (p : PassView). HasRanks p.sight.seen.graph)) (sym c.push_reserved.ensures.items)
-          (All-push (λ (p : PassView). HasRanks p.sight.seen.graph) c.loop-handle.passes.items c.into_inner-service.result.pass inv.7 c.into_inner-service.result.ranked),
+          (All-push (λ (p : PassView). HasRanks p.sight.seen.graph) c.loop-handle.passes.items c.into_inner-service.result.pass inv.7 c.into_inner-service.result.fit.ranks),
     )
 
 pub returns-clause-emptied : goal.returns-clause-emptied

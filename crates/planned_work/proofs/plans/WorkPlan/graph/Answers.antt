@@ -3,10 +3,11 @@ use Rattle.std.proofs.lemmas.Bool.{false≢true}
 use Rattle.resource_lock.specs.Fits.{Fits}
 use Rattle.resource_lock.specs.declared.limits.TheConstants.{MAX_UNITS}
 use Rattle.ready_work.specs.Rank.{InRange, IsFirstCycle, lists_of}
+use Rattle.planned_work.specs.Fitting.{IsPlanFit}
 use Rattle.planned_work.specs.Graphs.{actions_in, all_actions_from, graph_of_plan}
 use Rattle.planned_work.specs.Plans.{PlannedTaskView}
-use Rattle.planned_work.specs.Ranks.{HasRanks}
 use Rattle.planned_work.proofs.GraphSteps.{few_in_all, graph_afters, graph_made, rows_made}
+use Rattle.planned_work.proofs.LastReleases.{plans_release_last}
 use Rattle.planned_work.proofs.PlanRuns.{in_range}
 use Rattle.planned_work.proofs.plans.WorkPlan.graph.Goals as goal
 
@@ -43,7 +44,12 @@ module _ (c : goal.After-new) where
 pub returns-in-Ok-None-clause-graph : goal.returns-in-Ok-None-clause-graph
 returns-in-Ok-None-clause-graph c = made c
 
-pub returns-in-Ok-None-clause-ranked : goal.returns-in-Ok-None-clause-ranked
-returns-in-Ok-None-clause-ranked c =
+pub returns-in-Ok-None-clause-fit : goal.returns-in-Ok-None-clause-fit
+returns-in-Ok-None-clause-fit c =
+    let p = c.args.self.now in
     let first : IsFirstCycle (lists_of c.after-2.result.now) None = subst (IsFirstCycle (lists_of c.after-2.result.now)) c.in-Ok-None.field-0-is c.in-Ok-None.ensures in
-    subst HasRanks (sym (made c)) (subst (λ (d : List (List ℕ)). IsFirstCycle d None) (c.after-2.ensures.value ∙ sym (graph_afters c.args.self.now c.args.workers c.args.max_leases c.tasks.ensures.plan)) first)
+    let rows = rows_made p _ _ _ c.in-Ok.ensures c.tasks.ensures.value c.after.ensures.value in
+    let actions = c.deref.ensures.value ∙ c.in-Ok-graph_actions.ensures ∙ ap (all_actions_from 0 0) c.tasks-2.ensures.value in
+    let fits = subst Fits (graph_made p c.args.workers c.args.max_leases _ _ _ _ c.locks-locks.ensures c.locks.ensures rows actions) (c.if-not-fits.ensures.0 refl) in
+    let ranks = subst (λ (d : List (List ℕ)). IsFirstCycle d None) (c.after-2.ensures.value ∙ sym (graph_afters p c.args.workers c.args.max_leases c.tasks.ensures.plan)) first in
+    subst IsPlanFit (sym (made c)) (record { fits = fits; ranks = ranks; last = plans_release_last p c.args.workers c.args.max_leases c.tasks.ensures.plan })

@@ -2,6 +2,7 @@ use Rattle.std.proofs.Common.{sym, ap, ◌∙◌, subst}
 use Rattle.planned_work.specs.Done.{DoneNextLeaves, ends_hold, had_hold_closing}
 use Rattle.planned_work.specs.Places.{closes}
 use Rattle.planned_work.proofs.Held.{answer_held, wakes_at}
+use Rattle.planned_work.proofs.Never.{done_next_answers}
 use Rattle.planned_work.proofs.Whole.{leaves_done_next, leaves_known}
 use Rattle.planned_work.proofs.workers.PlanWorker.done_next.Goals as goal
 
@@ -21,3 +22,12 @@ pub returns-clause-left : goal.returns-clause-left
 returns-clause-left c =
     let n = c.done_next_in in
     leaves_done_next c.args.gave c.args.self.now.pass.sight n.new.self.pass.sight c.place_of-place.result n.result.0 (sym c.place_of-place.ensures) (c.knows_stop.ensures.unknown c.if-knows_stop.false) n.ensures.left
+
+pub returns-then-knows_stop-clause-never : goal.returns-then-knows_stop-clause-never
+returns-then-knows_stop-clause-never c =
+    done_next_answers c.args.self.now.pass.sight c.done-answer.new.self.pass.sight c.args.self.now.fit c.args.gave c.next_of_answer.result (returns-then-knows_stop-clause-left c)
+
+pub returns-clause-never : goal.returns-clause-never
+returns-clause-never c =
+    let n = c.done_next_in in
+    done_next_answers c.args.self.now.pass.sight n.new.self.pass.sight c.args.self.now.fit c.args.gave n.result.0 (returns-clause-left c)
