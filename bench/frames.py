@@ -14,6 +14,12 @@ status 0, where valgrind or rt is missing.
 Measured: instructions a byte in one piece: requests with names of 5 bytes 37.3, of 60 bytes 19.0, replies 5.4 and 2.6, all kinds 15.5; by
 pieces of 4,096 bytes 31.8, 18.0, 5.8, 3.1, 16.7; byte by byte 122 to 153. Eight times the stream takes 7.2 to 8.4 times as many. Version 2
 takes 2.3 to 8.0 instructions a frame more to decode and 11.8 to 13.0 more to encode (goal 2).
+
+All 13.0 are the program's own: of a reply 113 in version 1 and 126 in version 2, and memory takes 147 in both. Of 706 instructions that a
+request with a name of 5 bytes takes to decode, about 240 take memory, 110 give it back, 125 are the name's form, 75 UTF-8, and most others copy
+frames, whose list grows by doubling. An unproved build with other inlining takes 3.0 more to encode any frame of version 2, 5.0 more to
+decode a request, and 11 fewer to decode a reply. Tried in it: the mode's byte as a number, so that both modes are written by one call; that
+takes 6.0 more.
 """
 
 import pathlib
