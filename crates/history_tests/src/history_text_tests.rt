@@ -2,7 +2,6 @@
 ghost use Rattle.std.specs.Prelude.{◌≡◌, IfOk, true};
 ghost use Rattle.plan_reader.specs.Graph.{graph_of};
 
-use crate::file_access_tests::sink;
 use file_access::{MemorySink, Page};
 use history_text::{write_history, write_results};
 use item_actions::Outcome;
@@ -22,6 +21,11 @@ pub(crate) static PLAN: &[u8] = b"[[project]]\nname = \"p\"\n\n\
     [[task]]\nname = \"t\"\nproject = \"p\"\n\n\
     [[task.action]]\nwait = \"retain\"\nfetch = \"a.txt\"\n\n\
     [[task.action.item]]\ndo = \"lines\"\nfile = \"b.txt\"\n";
+
+/// A sink of so much room.
+pub(crate) fn sink(alloc: Global, room: u64) -> Result<Box<MemorySink>, AllocError> {
+    Ok(Box::new(alloc, MemorySink::new(alloc, room, Vec::new(alloc))?)?)
+}
 
 // A book of the plan's graph, for 32 workers and 4 leases.
 pub(crate) fn open(alloc: Global, plan: &Plan) -> Result<Box<Book>, AllocError>
@@ -156,7 +160,7 @@ fn runs_and_prints(
 fn prints(alloc: Global, plan: &Plan, book: &Book, text: &[u8]) -> Result<bool, AllocError>
     requires { book.now.graph ≡ graph_of plan.now 32 4 true }
 {
-    let mut sink = sink(alloc, 2000, &[])?;
+    let mut sink = sink(alloc, 2000)?;
     Ok(write(plan, book, &mut sink) && sink.taken() == text)
 }
 

@@ -1,7 +1,7 @@
 use Rattle.std.proofs.Common.{All, rules, subst, sym}
 use Rattle.lock_journal.specs.Marks.{HasEnded, IsEnded}
 use Rattle.resource_lock.specs.StateView.{StateView}
-use Rattle.file_and_history_tests.proofs.history_text_tests.write.Goals as goal
+use Rattle.history_tests.proofs.history_text_tests.write.Goals as goal
 
 pub write_results-requires-clause-ended : goal.write_results-requires-clause-ended
 write_results-requires-clause-ended c =
