@@ -12,10 +12,10 @@ The archive is made by c/build.sh, which proves crates/wakhurmi_c where that is 
 
 SECONDS is for each row, 3 where it isn't given.
 
-Measured, 3 seconds a row, beside one other process: by a service no take waits longer than 95 ms, and the fewest rounds of a thread are 0.53 to 0.96 of
-the most; by mutexes 752 ms, and 0.17 to 0.96. With blocking sections 0.45 to 0.92, and 203 ms with 32 threads that work 1 ms. The ninth thread has
-102 rounds, and waits 395 ms at most. A service makes 0.36 to 0.99 of the mutexes' rounds. As long as each hand-back woke all that wait, the ninth had 452
-rounds in 7 seconds, and waited 16 ms at most, on another machine.
+Measured twice with the proved part compiled without its proof, 3 seconds a row, on four processors that some 15 other processes wanted too: by a
+service the fewest rounds of a thread are 0.71 to 0.99 of the most, and no take waits longer than 68 ms; by mutexes 0.36 to 0.92, and 880 ms. With
+blocking sections 0.63 to 0.98; there the longest wait was 170 ms, and 83 ms in runs of 1.5 seconds before the other processes. The ninth thread has 522
+and 544 rounds where the others had at most 1,069 and 1,112, and waits 16 ms at most. A service makes 0.35 to 1.08 of the mutexes' rounds.
 """
 
 import pathlib

@@ -23,16 +23,26 @@ typedef struct wakhurmi_seat wakhurmi_seat; /* Where a worker of a plan sleeps (
 
 /* A worker's call that sleeps (sleeps.h). What others read or change of it they do under the mutex, and so does its own thread. */
 typedef struct {
-    bool has_news;     /* It was woken, and hasn't looked since. */
-    bool is_kept_back; /* It waits for one that is queued. Else it looked in vain, or looks. */
-    bool awaits_lease; /* A lease may be all that it waits for. */
-    lock_marks marks;  /* Of the locks that it takes. */
+    bool has_news;        /* It was woken, and hasn't looked since. */
+    bool is_represented;  /* An earlier call takes the same, and is woken for both. */
+    bool is_kept_back;    /* It waits for one that is queued. Else it looked in vain, or looks. */
+    bool awaits_lease;    /* A lease may be all that it waits for. */
+    bool brings_lease;    /* It was woken for a lease that was given back, and hasn't ended its look. */
+    bool is_queued;
+    lock_marks marks;     /* Of the locks that it takes. */
     uint64_t inside[MAX_WORKERS / 64]; /* Workers whose calls may have given back a lease that it didn't see, by bits. */
-    uint32_t place; /* Among those that sleep. */
-    bool may_be_kept_back, may_lack_lease, is_queued;
-    unsigned first_news;
-    int64_t patient_until, kept_until;
+    int64_t came;       /* When it began. */
+    unsigned overtaken; /* How many turns later calls have had meanwhile. */
     arrival call;
+    /* Its own thread's alone, or constant while it sleeps. */
+    bool may_be_kept_back, may_lack_lease;
+    bool may_be_represented; /* All that it takes is known: the call's locks, of which there are some, and a lease. */
+    bool has_slept;
+    bool begins_with_look;   /* It wasn't represented from the first. */
+    uint64_t given_back;     /* That of the service, when it began its look. */
+    uint32_t brought;        /* So many leases were left when it began the look that it makes, where it was woken for one; else 0. */
+    int64_t kept_until;
+    int64_t turn_began; /* When the worker last got what it had slept for. */
     lock_list parked; /* The locks that a leave takes, once it has slept. */
     pthread_cond_t woken;
 } sleeper;
@@ -40,7 +50,6 @@ typedef struct {
 struct wakhurmi_service {
     pthread_mutex_t mutex;
     atomic_int sleepers; /* See below. */
-    atomic_uint news; /* How often something was let go while calls slept. */
     atomic_bool stopped;
     bool is_planned; /* Its handles are those of a plan's workers. */
     uint32_t count, max_leases, locks;
@@ -49,10 +58,14 @@ struct wakhurmi_service {
     uint32_t *maxima; /* Theirs, in place of locks, or null. */
     unsigned forks;
     atomic_uint usual; /* `forks`, with those of the notes below that hold. */
-    atomic_ullong arrivals;
-    queue queue; /* Under the mutex, as the next two. */
+    queue queue; /* Under the mutex, as the next eight. */
+    uint64_t arrivals, given_back; /* How many calls slept, and how often something was given back while some did. */
+    uint32_t bringers;    /* So many calls bring a lease. */
+    uint32_t leases_left; /* So many more were given back that calls wait for. */
+    lock_marks marks_awaited; /* Of the locks that calls which sleep take. */
+    bool some_are_unsure; /* A call that doesn't wait for a lease may yet be woken for one, by who was inside. */
     uint32_t asleep_count;
-    sleeper **asleep; /* The calls that sleep, or are about to. */
+    sleeper **asleep; /* The calls that sleep, or are about to, in the order in which they came. */
     slot book;
     kept_entries kept;
     /* By worker: its call that sleeps; its use and its handle, while a call has those of all workers. */

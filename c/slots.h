@@ -63,6 +63,8 @@ uint32_t wakhurmi_c_close_part(handle *part);
 #define FIRST_PAUSE 150
 #define NAP 50000
 #define SECOND 1000000000
+/* So often a call looks again, behind such pauses, before it sleeps: for some 2 microseconds, where to sleep and to be woken takes 10 or more. */
+#define LOOKS_BEFORE_SLEEP 4
 
 /* While the use is one of the first four no call touches the handle. */
 typedef enum { EMPTY, IN_SECTION, HOLDING, ASLEEP, IN_CALL, LENT, GONE } use;

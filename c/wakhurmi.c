@@ -12,6 +12,8 @@
  * its second look. So either it sees the note, tells the proved part by its own handle, and the look answers STOPPED where it would answer BUSY; or
  * the stop's news come after it noted that all is news.
  *
+ * A call that takes the same as an earlier one which sleeps goes to sleep without a second look: the earlier one's looks are for both (sleeps.h).
+ *
  * A sleep with a deadline ends at the deadline too. Then the call looks once more, and answers TIMED_OUT where it would sleep again.
  *
  * A call that is kept back (queue.h) asks the queue where it notes that all is news, under the mutex, and is woken by who leaves the queue, where it
@@ -54,9 +56,17 @@ static inline bool is_as_usual(wakhurmi_service *service) {
     return service != NULL && is_of_this_process(atomic_load_explicit(&service->usual, memory_order_relaxed));
 }
 
+/* Sleeps while others may have the handle. */
+static void sleep_beside(wakhurmi_service *service, slot *held, sleeper *own, moment until) {
+    let_go(held, ASLEEP);
+    sleep_until_news(service, own, until);
+    claim(held, ASLEEP, IN_CALL);
+}
+
 /* Sleeps until the deed can be done, or can't for another reason than that others have what it takes, or the deadline has passed. No look
  * is made under the mutex, so whoever wakes never waits for one. */
 static told sleep_until_done(wakhurmi_service *service, slot *held, request asked, sleeper *own) {
+    if (!own->begins_with_look) sleep_beside(service, held, own, asked.deadline);
     for (;;) {
         bool is_late = now() >= asked.deadline, looks = begin_look(service, own, is_late);
         if (atomic_load(&service->stopped)) tell_stop(held);
@@ -67,9 +77,7 @@ static told sleep_until_done(wakhurmi_service *service, slot *held, request aske
             end_vain_look(service, held, own);
         }
         moment until = !looks && own->kept_until < asked.deadline ? own->kept_until : asked.deadline;
-        let_go(held, ASLEEP);
-        sleep_until_news(service, own, until);
-        claim(held, ASLEEP, IN_CALL);
+        sleep_beside(service, held, own, until);
     }
 }
 
@@ -102,11 +110,22 @@ static void wake(wakhurmi_service *service, uint32_t worker, deed what) {
     }
 }
 
+/* Looks again a few times, where nobody sleeps: what is had for a moment comes sooner than a sleep ends, and nobody is overtaken. */
+static told look_for_a_moment(wakhurmi_service *service, slot *held, request asked) {
+    told said = {WAKHURMI_BUSY, false};
+    for (unsigned looks = 1; looks <= LOOKS_BEFORE_SLEEP && said.answer == WAKHURMI_BUSY && !has_sleepers(service); looks++) {
+        wait_a_moment(looks);
+        said = look(held, asked);
+    }
+    return said;
+}
+
 /* What comes after a first look, where that didn't do the deed or there are sleepers to wake. */
 SELDOM wakhurmi_answer complete(wakhurmi_service *service, uint32_t worker, request asked, use before, uint32_t answer, bool wakes) {
     told said = {answer, wakes};
     slot *held = service->workers + worker;
     if (said.answer == AGAIN) said = look_again(held, asked);
+    if (said.answer == WAKHURMI_BUSY) said = look_for_a_moment(service, held, asked);
     if (said.answer == WAKHURMI_BUSY) said = sleep_for(service, worker, asked, before);
     if (said.answer == WAKHURMI_OK) note_marks(service, held, asked, before);
     if (said.wakes && has_sleepers(service)) wake(service, worker, asked.what);

@@ -32,9 +32,9 @@
  *
  * What calls cost. wakhurmi_open: by workers and locks. A call that takes or gives back K locks: by K, and more than in proportion above some
  * hundreds; 4,096 at once take milliseconds. One that is refused for its numbers reads them up to the first that is wrong. Where others wait one that
- * gives something back goes through them, and wakes those that wait for a lease or for one of its locks; another lock may be taken for one of its own
- * where there are more than 64. One that takes uses looks at up to 32 locks of each service, and takes memory for the time of the call.
- * wakhurmi_leases_out and wakhurmi_finish: by workers. wakhurmi_stop: by those that wait, which all wake.
+ * gives something back goes through them, and wakes one for the lease, and of those that wait for its locks the first of each that take the same; another
+ * lock may be taken for one of its own where there are more than 64. One that takes uses looks at up to 32 locks of each service, and takes memory for
+ * the time of the call. wakhurmi_leases_out and wakhurmi_finish: by workers. wakhurmi_stop: by those that wait, which all wake.
  * wakhurmi_history and wakhurmi_part_text: by the bytes written. wakhurmi_take_history: by the entries of an old part, outside the service; inside it
  * is constant. wakhurmi_close and wakhurmi_close_part: by the entries that are there.
  *
@@ -42,12 +42,15 @@
  * service that lives long has its history taken now and then, or is opened by wakhurmi_open_keeping: then it keeps the last entries alone, or hardly
  * any.
  *
- * In which order calls get what they wait for. Whoever looks first gets what is free. But a call that has waited for 10 milliseconds, while 4 entries
- * or more let something go, is queued; where 32 calls wait it is so without the 10 milliseconds. From then on a later call waits for it, though it
- * could be done at once, where both take one lock, or uses of one shared service, or one of them takes the all-projects lock and the other any; or
- * where the queued one found all leases out. Those aren't kept back so: wakhurmi_try_take and wakhurmi_try_take_uses; a call of a worker that has a
- * lease, as the queued one may wait for just what that worker has; and any call that was kept back for 100 milliseconds, since a worker with a lock may
- * wait elsewhere for the one that is kept back. wakhurmi_leave is queued and kept back for its lease and its locks, as a take of these.
+ * In which order calls get what they wait for. Whoever looks first gets what is free; where nobody else waits a call looks for some 2 microseconds
+ * before it sleeps. A worker that got what it had waited for has a turn: of 2 milliseconds, less where more than 15 calls wait, and as many times as
+ * long for a lease as there are leases. Where a worker gives something back whose turn has ended, or who never waited, the call that waited longest for
+ * it is queued, if it has waited for 2 milliseconds; so is one that 4 later ones have overtaken. From then on a later call waits for the queued one,
+ * though it could be done at once, where both take one lock, or uses of one shared service, or one of them takes the all-projects lock and the other
+ * any; or where the queued one found all leases out. Those aren't kept back so: wakhurmi_try_take and wakhurmi_try_take_uses; a call of a worker that
+ * has a lease, as the queued one may wait for just what that worker has; any call that was kept back for 100 milliseconds, since a worker with a lock
+ * may wait elsewhere for the one that is kept back; and for a lease's sake a worker in its turn. Calls that take the same locks go one behind the
+ * other, and those 100 milliseconds count for the first of them. wakhurmi_leave is queued and kept back for its lease and its locks, as a take of these.
  *
  * Calls of several threads may meet inside the service. Then all but one pause, and after some 20 microseconds each naps, for 50 or more at a
  * time, until it finds nobody inside. No comment below calls that waiting, no deadline ends it, and nothing bounds how often a call naps.
