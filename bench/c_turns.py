@@ -12,10 +12,10 @@ The archive is made by c/build.sh, which proves crates/wakhurmi_c where that is 
 
 SECONDS is for each row, 3 where it isn't given.
 
-Measured twice with the proved part compiled without its proof, 3 seconds a row, on four processors that some 15 other processes wanted too: by a
-service the fewest rounds of a thread are 0.71 to 0.99 of the most, and no take waits longer than 68 ms; by mutexes 0.36 to 0.92, and 880 ms. With
-blocking sections 0.63 to 0.98; there the longest wait was 170 ms, and 83 ms in runs of 1.5 seconds before the other processes. The ninth thread has 522
-and 544 rounds where the others had at most 1,069 and 1,112, and waits 16 ms at most. A service makes 0.35 to 1.08 of the mutexes' rounds.
+Measured with the proved part compiled without its proof, 2 seconds a row, beside some five other processes on four processors: by a service the
+fewest rounds of a thread are 0.65 to 0.97 of the most, and no take waits longer than 39 ms; by mutexes 0.20 to 0.75, and 685 ms. With blocking sections
+0.60 to 0.98, and 45 ms. The ninth thread has 411 rounds where the others had at most 827, and waits 6 ms at most. A service makes 0.47 to 1.12 of the
+mutexes' rounds. Beside fifteen others the longest wait was 68 ms, with blocking sections 170 ms.
 """
 
 import pathlib

@@ -20,10 +20,12 @@ What the two do differently:
 For each row it prints nanoseconds by the clock and of processors that a round takes, work included, and the fewest rounds of a thread by the most. A row
 is behind where ours takes more than Gradle's by the clock or of processors, and uneven where the fewest rounds of a thread are less than half the most.
 
-Measured with the proved part compiled without its proof, medians of three runs of 0.8 seconds, on four processors that some 15 other processes wanted
-too, before calls looked on before they sleep: ours takes less by the clock and of processors in all 48 rows, 0.02 to 0.97 of Gradle's. The fewest rounds of a
-thread are 0.31 to 1.00 of the most, below a half in five rows of 32 threads; Gradle's 0.00 to 1.00, below a half in 19. Gradle's times suffer more from
-the others: in a single run before them it was ahead of processors in some rows.
+Measured with the proved part compiled without its proof, medians of three runs of 0.8 seconds, on four processors that fifteen other processes
+wanted too: ours takes less by the clock and of processors in all 48 rows, 0.02 to 0.97 of Gradle's. The fewest rounds of a thread are 0.31 to 1.00 of
+the most, below a half in five rows of 32 threads; Gradle's 0.00 to 1.00, below a half in 19. Gradle's times suffer more from the others. Beside five,
+eleven of the rows: 327 to 379 ns by the clock where Gradle's takes 707 to 890, with 1 to 8 threads that do nothing with locks of their own; with 32 of
+these 743 ns of processors where Gradle's takes 651, and lets a thread have none; with 8 threads, two locks and 2 microseconds 2,193 by the clock and
+3,333 of processors where Gradle's takes 3,354 and 3,575. Four leases for 32 threads: 0.23 to 0.77, Gradle's at most 0.03.
 
 The archive is that of WAKHURMI, a folder that c/build.sh has filled, or made here, which proves crates/wakhurmi_c where that is still to be done. Not
 part of the gate.

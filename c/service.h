@@ -27,7 +27,7 @@ typedef struct {
     bool is_represented;  /* An earlier call takes the same, and is woken for both. */
     bool is_kept_back;    /* It waits for one that is queued. Else it looked in vain, or looks. */
     bool awaits_lease;    /* A lease may be all that it waits for. */
-    bool brings_lease;    /* It was woken for a lease that was given back, and hasn't ended its look. */
+    bool brings_lease;    /* It was woken for a lease that was given back, and hasn't ended the look that it made for it. */
     bool is_queued;
     lock_marks marks;     /* Of the locks that it takes. */
     uint64_t inside[MAX_WORKERS / 64]; /* Workers whose calls may have given back a lease that it didn't see, by bits. */

@@ -15,7 +15,8 @@
  * A call that brings a lease and takes one has another woken for what is left. If it looks in vain, and not all leases are out behind its look, then
  * it lacked a lock, and it passes on its lease and what was left when it began to look; so too where it is kept back or ends. If all leases are
  * out, then others have taken them, and will give them back. So while a lease is free for which somebody in the list may wait, somebody is awake for
- * it. A call that isn't kept back any more for one that had found all leases out waits for a lease, since what was given back meanwhile is counted.
+ * it. Calls that aren't kept back any more for one that had found all leases out wait for a lease. How many were given back meanwhile isn't known, so one
+ * is woken as if there were some, and the next behind each that takes one.
  *
  * Whether a lease may be all that a call waits for it asks behind its look. Then all leases are out, or they aren't any more. In the second case
  * one may have been given back since the look. By a call whose news came since the look began: then another may have been woken for it, so this
@@ -179,6 +180,7 @@ static bool begin_look(wakhurmi_service *service, sleeper *own, bool must_look) 
     pthread_mutex_lock(&service->mutex);
     may_be = may_be && !atomic_load(&service->stopped);
     bool is_kept_back = may_be && has_to_let_go_first(&service->queue, &own->call, has_lease_coming(service, own, begun));
+    own->is_kept_back = is_kept_back;
     if (is_kept_back) pass_leases_on(service, own, 1);
     if (own->brings_lease) {
         own->brought = 1 + service->leases_left;
@@ -186,7 +188,6 @@ static bool begin_look(wakhurmi_service *service, sleeper *own, bool must_look) 
     }
     own->has_news = false;
     own->given_back = service->given_back;
-    own->is_kept_back = is_kept_back;
     own->awaits_lease = own->may_lack_lease;
     memset(own->inside, 0, sizeof own->inside);
     pthread_mutex_unlock(&service->mutex);
@@ -195,7 +196,7 @@ static bool begin_look(wakhurmi_service *service, sleeper *own, bool must_look) 
 }
 
 /* Has calls go on that aren't kept back any more. The taker is the call that left the queue with what it wanted, or NULL. Those that take one of its
- * locks wait for these from now on. Where it had found all leases out, the others wait for a lease: what has been given back since is counted. Of a
+ * locks wait for these from now on. Where it had found all leases out, the others wait for a lease, and one of them is to be woken for it. Of a
  * shared service another use may be had, so those look. The mutex is locked. */
 static void let_kept_go_on(wakhurmi_service *service, const sleeper *taker) {
     for (uint32_t at = 0; at < service->asleep_count; at++) {
@@ -207,6 +208,8 @@ static void let_kept_go_on(wakhurmi_service *service, const sleeper *taker) {
         if (lacks_lock || lacks_lease) {
             found->is_kept_back = false;
             found->awaits_lease = lacks_lease;
+            if (lacks_lock) found->call.found_none = false;
+            if (lacks_lease) service->leases_left = service->max_leases;
         } else {
             tell_news(found);
         }
@@ -233,7 +236,7 @@ static void end_vain_look(wakhurmi_service *service, slot *held, sleeper *own) {
     bool found_none = own->may_lack_lease && answer == WAKHURMI_OK && leases == service->max_leases;
     if (own->may_lack_lease && !found_none) note_inside(service, inside);
     pthread_mutex_lock(&service->mutex);
-    own->awaits_lease = found_none || answer != WAKHURMI_OK || service->given_back != own->given_back;
+    own->awaits_lease = own->may_lack_lease && (found_none || answer != WAKHURMI_OK || service->given_back != own->given_back);
     if (own->may_lack_lease && !own->awaits_lease) service->some_are_unsure = true;
     memcpy(own->inside, inside, sizeof inside);
     bool lets_go_on = own->is_queued && own->call.found_none && !found_none;
