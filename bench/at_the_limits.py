@@ -13,9 +13,9 @@ Not part of the gate. Skips, with status 0, where valgrind or rt is missing; end
 
 PROGRAM is a built program of bench/programs/at_the_limits. TASKS and LOCKS stand for the limits.
 
-Measured, of a program that wasn't proved: at the limits the question what is next takes 469 instructions beside 359, a start 1,539 (1,542),
-a submit 1,130 and the same, a wait 1,226 (1,228), a claim 1,077 and the same, a close 1,146 and the same, a resume 1,295 (1,297) and an
-end 1,980 (1,989). The opening takes 489 a task beside 495.
+Measured, of a program that wasn't proved: at the limits the question what is next takes 469 instructions beside 359, a start 1,529 (1,532),
+a submit 1,097 and the same, a wait 1,204 (1,206), a claim 1,047 and the same, a close 1,116 and the same, a resume 1,272 (1,274) and an
+end 1,925 (1,934). The opening takes 489 a task beside 495.
 """
 
 import pathlib
