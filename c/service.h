@@ -27,7 +27,7 @@ typedef struct {
     bool is_represented;  /* An earlier call takes the same, and is woken for both. */
     bool is_kept_back;    /* It waits for one that is queued. Else it looked in vain, or looks. */
     bool awaits_lease;    /* A lease may be all that it waits for. */
-    bool brings_lease;    /* It was woken for a lease that was given back, and hasn't ended the look that it made for it. */
+    bool brings_lease;    /* It was woken for a lease that was given back, and hasn't ended the look that it makes for it. */
     bool is_queued;
     lock_marks marks;     /* Of the locks that it takes. */
     uint64_t inside[MAX_WORKERS / 64]; /* Workers whose calls may have given back a lease that it didn't see, by bits. */
@@ -40,7 +40,6 @@ typedef struct {
     bool has_slept;
     bool begins_with_look;   /* It wasn't represented from the first. */
     uint64_t given_back;     /* That of the service, when it began its look. */
-    uint32_t brought;        /* So many leases were left when it began the look that it makes, where it was woken for one; else 0. */
     int64_t kept_until;
     int64_t turn_began; /* When the worker last got what it had slept for. */
     lock_list parked; /* The locks that a leave takes, once it has slept. */
@@ -58,12 +57,10 @@ struct wakhurmi_service {
     uint32_t *maxima; /* Theirs, in place of locks, or null. */
     unsigned forks;
     atomic_uint usual; /* `forks`, with those of the notes below that hold. */
-    queue queue; /* Under the mutex, as the next eight. */
+    queue queue; /* Under the mutex, as the next six. */
     uint64_t arrivals, given_back; /* How many calls slept, and how often something was given back while some did. */
-    uint32_t bringers;    /* So many calls bring a lease. */
-    uint32_t leases_left; /* So many more were given back that calls wait for. */
-    lock_marks marks_awaited; /* Of the locks that calls which sleep take. */
-    bool some_are_unsure; /* A call that doesn't wait for a lease may yet be woken for one, by who was inside. */
+    uint32_t bringers;  /* So many calls bring a lease. */
+    bool is_lease_left; /* One may have been given back for which nobody was woken. */
     uint32_t asleep_count;
     sleeper **asleep; /* The calls that sleep, or are about to, in the order in which they came. */
     slot book;

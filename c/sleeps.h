@@ -10,13 +10,13 @@
  * without, the next is woken in its place. Where it is kept back, so are they, who came later. A call that was woken though it is represented, by a stop
  * or its deadline, looks for itself. Of a shared service another use may be had, so there nobody is represented.
  *
- * Of the calls that wait for a lease the first is woken for one that was given back: it brings the lease. While one is awake so, further leases
- * are counted as left. But where the turn of who gave one back has ended (queue.h), that worker won't take it again at once, so one more call is woken.
- * A call that brings a lease and takes one has another woken for what is left. If it looks in vain, and not all leases are out behind its look, then
- * it lacked a lock, and it passes on its lease and what was left when it began to look; so too where it is kept back or ends. If all leases are
- * out, then others have taken them, and will give them back. So while a lease is free for which somebody in the list may wait, somebody is awake for
- * it. Calls that aren't kept back any more for one that had found all leases out wait for a lease. How many were given back meanwhile isn't known, so one
- * is woken as if there were some, and the next behind each that takes one.
+ * Of the calls that wait for a lease the first is woken for one that was given back: it brings the lease. While one is awake so, a lease that is given
+ * back is noted as left, and no other is woken for it. But where the turn of who gave it back has ended (queue.h), that worker won't take it again at
+ * once, so one more call is woken. A call that brought a lease and takes one has the next woken where a lease is left. So it does where it lacked a lock, is
+ * kept back, or ends: then it leaves its own. How many are left isn't counted: none is, once a call looked in vain, all leases are out behind its look,
+ * and none was given back since it began. Then others have taken them, and will give them back. So while a lease is free for which somebody in the list
+ * may wait, somebody is awake for it. Calls that aren't kept back any more for one that had found all leases out wait for a lease. Of those that were
+ * given back meanwhile one may be left, as far as anybody knows.
  *
  * Whether a lease may be all that a call waits for it asks behind its look. Then all leases are out, or they aren't any more. In the second case
  * one may have been given back since the look. By a call whose news came since the look began: then another may have been woken for it, so this
@@ -64,41 +64,31 @@ SELDOM void wake_all(wakhurmi_service *service) {
 
 static bool was_inside(const sleeper *asleep, uint32_t worker) { return asleep->inside[worker / 64] >> (worker % 64) & 1; }
 
-/* So many leases were given back for which a call is to be woken. */
-static void leave_leases(wakhurmi_service *service, uint32_t count) {
-    service->leases_left += count;
-    if (service->leases_left > service->max_leases) service->leases_left = service->max_leases;
-}
-
 static void have_bring_lease(wakhurmi_service *service, sleeper *asleep) {
     asleep->brings_lease = true;
     service->bringers++;
 }
 
-/* Wakes a call for a lease that is left, where none is awake for one: the first that waits for a lease. */
+/* Wakes the first other call that waits for a lease, where one is left and nobody is awake for it. */
 static void wake_for_lease(wakhurmi_service *service, const sleeper *but) {
-    if (service->bringers > 0 || service->leases_left == 0) return;
-    bool is_one_kept_back = false;
+    if (service->bringers > 0 || !service->is_lease_left) return;
     for (uint32_t at = 0; at < service->asleep_count; at++) {
         sleeper *found = service->asleep[at];
-        is_one_kept_back = is_one_kept_back || found->is_kept_back;
         if (found == but || found->is_kept_back || found->is_represented || !found->awaits_lease) continue;
-        service->leases_left--;
         have_bring_lease(service, found);
         tell_in_turn(service, found, false);
         return;
     }
-    if (!is_one_kept_back) service->leases_left = 0;
 }
 
-/* A call that brought leases leaves so many of them to others. */
-static void pass_leases_on(wakhurmi_service *service, sleeper *from, uint32_t count) {
-    if (!from->brings_lease) return;
-    from->brings_lease = false;
-    from->brought = 0;
-    service->bringers--;
-    leave_leases(service, count);
-    wake_for_lease(service, from);
+/* A call has ended its look, or the sleep. If it brought a lease it may leave one to others. */
+static void end_bringing(wakhurmi_service *service, sleeper *own, bool leaves_lease) {
+    if (own->brings_lease) {
+        own->brings_lease = false;
+        service->bringers--;
+        service->is_lease_left |= leaves_lease;
+    }
+    wake_for_lease(service, own);
 }
 
 /* How long a worker that got what it slept for may take a lock again before one that waits for it has its turn. A lease may be so for as many times as
@@ -108,49 +98,26 @@ static moment length_of_turn(const wakhurmi_service *service) {
     return length < LONGEST_TURN ? length : LONGEST_TURN;
 }
 
-/* Wakes those that may go on by what a worker gives back at this time: a lease, and the locks of these marks. */
-static void wake_for(wakhurmi_service *service, uint32_t worker, lock_marks marks, moment time) {
-    const moment turn = length_of_turn(service), had = time - service->sleeping[worker].turn_began;
+/* Wakes those that may go on by what a worker has just given back: a lease, and locks. The mutex isn't locked. */
+SELDOM void wake_by(wakhurmi_service *service, uint32_t worker) {
+    const moment time = now();
     bool is_lease_left = true;
-    service->some_are_unsure = false;
+    pthread_mutex_lock(&service->mutex);
+    const moment turn = length_of_turn(service), had = time - service->sleeping[worker].turn_began;
+    service->given_back++;
     for (uint32_t at = 0; at < service->asleep_count; at++) {
         sleeper *found = service->asleep[at];
         if (found->is_kept_back || found->is_represented) continue;
-        service->some_are_unsure = service->some_are_unsure || (found->may_lack_lease && !found->awaits_lease);
-        bool lacks_lock = (found->marks & marks) != 0;
+        bool lacks_lock = (found->marks & service->workers[worker].marks) != 0;
         if (!lacks_lock && !found->awaits_lease && !was_inside(found, worker)) continue;
         bool is_its_turn = had >= (lacks_lock ? turn : turn * service->max_leases) && time - found->came >= PATIENCE;
-        if (is_lease_left && found->may_lack_lease && !found->brings_lease) {
+        if (is_lease_left && found->may_lack_lease && !found->brings_lease && (service->bringers == 0 || is_its_turn)) {
             is_lease_left = false;
-            if (service->bringers == 0 || is_its_turn) {
-                have_bring_lease(service, found);
-            } else {
-                leave_leases(service, 1);
-            }
+            have_bring_lease(service, found);
         }
         if (lacks_lock || found->brings_lease || !found->awaits_lease) tell_in_turn(service, found, is_its_turn);
     }
-    if (is_lease_left && service->bringers > 0) leave_leases(service, 1);
-}
-
-/* Whether those that sleep wait for a lease alone, somebody is awake for one, and who gave one back may take it again: so nobody has to be woken. */
-static bool is_enough_awake(const wakhurmi_service *service, uint32_t worker, lock_marks marks, moment time) {
-    moment had = time - service->sleeping[worker].turn_began;
-    bool is_for_lease = (service->marks_awaited & marks) == 0 && !service->some_are_unsure;
-    return is_for_lease && service->bringers > 0 && had < length_of_turn(service) * service->max_leases;
-}
-
-/* The same for what a worker has just given back. The mutex isn't locked. */
-SELDOM void wake_by(wakhurmi_service *service, uint32_t worker) {
-    const lock_marks marks = service->workers[worker].marks;
-    const moment time = now();
-    pthread_mutex_lock(&service->mutex);
-    service->given_back++;
-    if (is_enough_awake(service, worker, marks, time)) {
-        leave_leases(service, 1);
-    } else {
-        wake_for(service, worker, marks, time);
-    }
+    service->is_lease_left |= is_lease_left;
     pthread_mutex_unlock(&service->mutex);
 }
 
@@ -173,6 +140,33 @@ static bool has_lease_coming(const wakhurmi_service *service, const sleeper *own
     return own->brings_lease || (!own->has_slept && time - own->turn_began < length_of_turn(service) * service->max_leases);
 }
 
+/* Has calls go on that aren't kept back any more. The taker is the call that left the queue with what it wanted, or NULL. Those that take one of its
+ * locks wait for these from now on. Where it had found all leases out, the others wait for a lease. Of a shared service another use may be had, so those
+ * look. The mutex is locked, here and in the next. */
+static void let_kept_go_on(wakhurmi_service *service, const sleeper *taker) {
+    for (uint32_t at = 0; at < service->asleep_count; at++) {
+        sleeper *found = service->asleep[at];
+        if (!found->is_kept_back || has_to_let_go_first(&service->queue, &found->call, false)) continue;
+        bool is_known = taker != NULL && service->maxima == NULL;
+        bool lacks_lock = is_known && have_a_conflict(&taker->call, &found->call);
+        bool lacks_lease = is_known && taker->call.found_none && !lacks_lock;
+        if (lacks_lock || lacks_lease) {
+            found->is_kept_back = false;
+            found->awaits_lease = lacks_lease;
+            service->is_lease_left |= lacks_lease;
+        } else {
+            tell_news(found);
+        }
+    }
+}
+
+/* Notes whether a call has found all leases out. Those that were kept back for that go on, where it isn't so any more. */
+static void note_found_none(wakhurmi_service *service, sleeper *own, bool found_none) {
+    bool lets_go_on = own->is_queued && own->call.found_none && !found_none;
+    own->call.found_none = found_none;
+    if (lets_go_on) let_kept_go_on(service, NULL);
+}
+
 /* Begins a look, or has the call kept back for one that came earlier, where it need not look. True says that it looks. */
 static bool begin_look(wakhurmi_service *service, sleeper *own, bool must_look) {
     moment begun = now();
@@ -181,10 +175,9 @@ static bool begin_look(wakhurmi_service *service, sleeper *own, bool must_look) 
     may_be = may_be && !atomic_load(&service->stopped);
     bool is_kept_back = may_be && has_to_let_go_first(&service->queue, &own->call, has_lease_coming(service, own, begun));
     own->is_kept_back = is_kept_back;
-    if (is_kept_back) pass_leases_on(service, own, 1);
-    if (own->brings_lease) {
-        own->brought = 1 + service->leases_left;
-        service->leases_left = 0;
+    if (is_kept_back) {
+        end_bringing(service, own, true);
+        note_found_none(service, own, false);
     }
     own->has_news = false;
     own->given_back = service->given_back;
@@ -193,27 +186,6 @@ static bool begin_look(wakhurmi_service *service, sleeper *own, bool must_look) 
     pthread_mutex_unlock(&service->mutex);
     if (is_kept_back && own->kept_until == NEVER) own->kept_until = begun + KEPT_BACK;
     return !is_kept_back;
-}
-
-/* Has calls go on that aren't kept back any more. The taker is the call that left the queue with what it wanted, or NULL. Those that take one of its
- * locks wait for these from now on. Where it had found all leases out, the others wait for a lease, and one of them is to be woken for it. Of a
- * shared service another use may be had, so those look. The mutex is locked. */
-static void let_kept_go_on(wakhurmi_service *service, const sleeper *taker) {
-    for (uint32_t at = 0; at < service->asleep_count; at++) {
-        sleeper *found = service->asleep[at];
-        if (!found->is_kept_back || has_to_let_go_first(&service->queue, &found->call, false)) continue;
-        bool may_lack = taker != NULL && service->maxima == NULL;
-        bool lacks_lock = may_lack && have_a_conflict(&taker->call, &found->call);
-        bool lacks_lease = may_lack && taker->call.found_none && !lacks_lock;
-        if (lacks_lock || lacks_lease) {
-            found->is_kept_back = false;
-            found->awaits_lease = lacks_lease;
-            if (lacks_lock) found->call.found_none = false;
-            if (lacks_lease) service->leases_left = service->max_leases;
-        } else {
-            tell_news(found);
-        }
-    }
 }
 
 /* Which workers' calls are inside of this library. */
@@ -236,17 +208,13 @@ static void end_vain_look(wakhurmi_service *service, slot *held, sleeper *own) {
     bool found_none = own->may_lack_lease && answer == WAKHURMI_OK && leases == service->max_leases;
     if (own->may_lack_lease && !found_none) note_inside(service, inside);
     pthread_mutex_lock(&service->mutex);
-    own->awaits_lease = own->may_lack_lease && (found_none || answer != WAKHURMI_OK || service->given_back != own->given_back);
-    if (own->may_lack_lease && !own->awaits_lease) service->some_are_unsure = true;
+    bool has_changed = service->given_back != own->given_back; /* Since it began to look. */
+    own->awaits_lease = own->may_lack_lease && (found_none || answer != WAKHURMI_OK || has_changed);
     memcpy(own->inside, inside, sizeof inside);
-    bool lets_go_on = own->is_queued && own->call.found_none && !found_none;
-    own->call.found_none = found_none;
-    if (own->brought > 0) {
-        /* One was given back since it began to look. */
-        if (service->leases_left > 0) tell_news(own);
-        pass_leases_on(service, own, found_none ? 0 : own->brought);
-    }
-    if (lets_go_on) let_kept_go_on(service, NULL);
+    if (found_none && !has_changed) service->is_lease_left = false;
+    note_found_none(service, own, found_none);
+    /* With news it looks again for the lease that it brings. */
+    if (!own->has_news) end_bringing(service, own, !found_none);
     pthread_mutex_unlock(&service->mutex);
 }
 
@@ -319,11 +287,9 @@ static sleeper *begin_sleep(wakhurmi_service *service, uint32_t worker, request 
     if (atomic_load(&service->stopped)) own->is_represented = false;
     own->has_news = own->begins_with_look = !own->is_represented;
     own->is_kept_back = own->awaits_lease = own->brings_lease = own->has_slept = own->is_queued = false;
-    own->brought = 0;
     own->overtaken = 0;
     memset(own->inside, 0, sizeof own->inside);
     own->call.number = service->arrivals++;
-    service->marks_awaited |= own->marks;
     service->asleep[service->asleep_count++] = own;
     pthread_mutex_unlock(&service->mutex);
     return own;
@@ -335,8 +301,6 @@ static uint32_t leave_list(wakhurmi_service *service, const sleeper *own) {
     while (service->asleep[place] != own) place++;
     service->asleep_count--;
     for (uint32_t at = place; at < service->asleep_count; at++) service->asleep[at] = service->asleep[at + 1];
-    service->marks_awaited = 0;
-    for (uint32_t at = 0; at < service->asleep_count; at++) service->marks_awaited |= service->asleep[at]->marks;
     return place;
 }
 
@@ -372,7 +336,6 @@ static void end_sleep(wakhurmi_service *service, sleeper *own, bool has_taken) {
         note_whether(service, SOMEBODY_QUEUED, service->queue.length > 0);
         let_kept_go_on(service, has_taken ? own : NULL);
     }
-    pass_leases_on(service, own, own->brought == 0 ? 1 : has_taken ? own->brought - 1 : own->brought);
-    wake_for_lease(service, NULL);
+    end_bringing(service, own, !has_taken || own->has_news);
     pthread_mutex_unlock(&service->mutex);
 }
