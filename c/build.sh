@@ -28,7 +28,7 @@ for object in "$objects"/*.o; do
     objcopy --redefine-syms="$objects/names" "$object"
 done
 # CC may have words beside the compiler's name.
-for file in wakhurmi history plan run; do
+for file in wakhurmi opening history plan run; do
     # shellcheck disable=SC2086
     ${CC:-cc} -std=gnu11 -O2 -fPIC -Wall -Wextra "$@" -c "$here/$file.c" -o "$objects/layer-$file.o"
 done
