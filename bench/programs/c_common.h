@@ -56,6 +56,18 @@ static inline wakhurmi_service *open_to_check(size_t threads, uint32_t leases, u
     return service;
 }
 
+/* The rest of a round of a worker that has taken some locks or uses: works with them, and again behind a section if it enters one; then hands back. */
+static inline void end_round(wakhurmi_service *service, uint32_t worker, const uint32_t *numbers, size_t count, bool enters,
+                             void (*work)(const uint32_t *numbers, size_t count)) {
+    work(numbers, count);
+    if (enters) {
+        EXPECT(OK, wakhurmi_enter(service, worker));
+        EXPECT(OK, wakhurmi_leave(service, worker));
+        work(numbers, count);
+    }
+    EXPECT(OK, wakhurmi_hand_back(service, worker));
+}
+
 /* Ends a service, prints its history, and closes it. */
 static inline void print_history(wakhurmi_service *service) {
     char buffer[4096];

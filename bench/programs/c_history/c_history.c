@@ -39,22 +39,13 @@ static void append(text *to, const char *bytes, size_t count) {
     to->bytes[to->length] = 0;
 }
 
-static void append_part(text *to, wakhurmi_part *part, size_t size) {
+/* The text of a part or, where there is none, of what the ended service has. */
+static void append_history(text *to, wakhurmi_part *part, size_t size) {
     char buffer[MANY_BYTES];
     uint64_t place = 0;
     size_t written;
     do {
-        EXPECT(OK, wakhurmi_part_text(part, &place, buffer, size, &written));
-        append(to, buffer, written);
-    } while (written > 0);
-}
-
-static void append_rest(text *to, size_t size) {
-    char buffer[MANY_BYTES];
-    uint64_t place = 0;
-    size_t written;
-    do {
-        EXPECT(OK, wakhurmi_history(service, &place, buffer, size, &written));
+        EXPECT(OK, part != NULL ? wakhurmi_part_text(part, &place, buffer, size, &written) : wakhurmi_history(service, &place, buffer, size, &written));
         append(to, buffer, written);
     } while (written > 0);
 }
@@ -89,7 +80,7 @@ static uint64_t entries_of(summary of) { return of.first == 0 ? 0 : of.last - of
 
 static summary part_summary(wakhurmi_part *part) {
     text own = {0};
-    append_part(&own, part, MANY_BYTES);
+    append_history(&own, part, MANY_BYTES);
     summary all = summary_of(&own);
     free(own.bytes);
     demand(!all.has_end, "a part has no end");
@@ -98,7 +89,7 @@ static summary part_summary(wakhurmi_part *part) {
 
 static summary rest_summary(void) {
     text own = {0};
-    append_rest(&own, MANY_BYTES);
+    append_history(&own, NULL, MANY_BYTES);
     summary all = summary_of(&own);
     free(own.bytes);
     demand(all.has_end, "the rest has an end");
@@ -170,10 +161,10 @@ static void check_texts(void) {
         make_rounds(0, 500);
         EXPECT(OK, wakhurmi_finish(service));
         small.length = large.length = 0;
-        append_part(&small, part, FEW_BYTES);
-        append_rest(&small, FEW_BYTES);
-        append_part(&large, part, MANY_BYTES);
-        append_rest(&large, MANY_BYTES);
+        append_history(&small, part, FEW_BYTES);
+        append_history(&small, NULL, FEW_BYTES);
+        append_history(&large, part, MANY_BYTES);
+        append_history(&large, NULL, MANY_BYTES);
         demand(small.length == large.length && memcmp(small.bytes, large.bytes, small.length) == 0, "one text in any buffer");
         demand_entries(summary_of(&small), 1, 2000, "a whole text");
         demand(strstr(small.bytes, turn == 0 ? "\nworkers 1 " : "\nworkers 2 ") != NULL, "the head of the part's service");
@@ -423,7 +414,7 @@ static void *take_by_turns(void *argument) {
     (void)argument;
     for (size_t turn = 0; !atomic_load(&ended); turn++) {
         EXPECT(OK, wakhurmi_take_history(service, &parts[turn % 2]));
-        append_part(&joined, parts[turn % 2], MANY_BYTES);
+        append_history(&joined, parts[turn % 2], MANY_BYTES);
         sleep_for(TAKE_EACH);
     }
     wakhurmi_close_part(parts[0]);
@@ -435,7 +426,7 @@ static void *take_by_turns(void *argument) {
 static void *take_until_cancelled(void *part) {
     for (;;) {
         EXPECT(OK, wakhurmi_take_history(service, part));
-        append_part(&joined, *(wakhurmi_part **)part, FEW_BYTES);
+        append_history(&joined, *(wakhurmi_part **)part, FEW_BYTES);
         pthread_testcancel();
     }
     return NULL;
@@ -458,7 +449,7 @@ static void cancel_takers(int count) {
 
 static void end_and_print(void) {
     EXPECT(OK, wakhurmi_finish(service));
-    append_rest(&joined, MANY_BYTES);
+    append_history(&joined, NULL, MANY_BYTES);
     fwrite(joined.bytes, 1, joined.length, stdout);
     wakhurmi_close(service);
     free(joined.bytes);

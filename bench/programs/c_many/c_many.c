@@ -47,13 +47,7 @@ static void *meet(void *argument) {
         const uint32_t locks[2] = {first, first + 1};
         size_t count = (size_t)(round + (int)worker) % 3;
         EXPECT(OK, wakhurmi_take(service, worker, locks, count));
-        work_with(locks, count);
-        if (round % 3 == 0) {
-            EXPECT(OK, wakhurmi_enter(service, worker));
-            EXPECT(OK, wakhurmi_leave(service, worker));
-            work_with(locks, count);
-        }
-        EXPECT(OK, wakhurmi_hand_back(service, worker));
+        end_round(service, worker, locks, count, round % 3 == 0, work_with);
     }
     return NULL;
 }

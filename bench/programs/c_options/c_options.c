@@ -325,24 +325,18 @@ static void demand_kept(bool drops, bool begins_with_head) {
 }
 
 /* Counts itself as the owner of some projects. */
-static void work_with(uint32_t from, uint32_t to) {
-    for (uint32_t at = from; at < to; at++) demand(atomic_fetch_add(&owners[at], 1) == 0, "two owners of a project");
-    for (uint32_t at = from; at < to; at++) atomic_fetch_sub(&owners[at], 1);
+static void work_with(const uint32_t *projects, size_t count) {
+    for (size_t at = 0; at < count; at++) demand(atomic_fetch_add(&owners[projects[at]], 1) == 0, "two owners of a project");
+    for (size_t at = 0; at < count; at++) atomic_fetch_sub(&owners[projects[at]], 1);
 }
 
 static void *take_rounds(void *argument) {
+    static const uint32_t all[PROJECTS] = {0, 1, 2};
     uint32_t worker = (uint32_t)(size_t)argument;
     for (int round = 0; round < rounds; round++) {
         uint32_t lock = (uint32_t)(round + (int)worker) % (PROJECTS + 1);
-        uint32_t from = lock == PROJECTS ? 0 : lock, to = lock == PROJECTS ? PROJECTS : lock + 1;
         EXPECT(OK, wakhurmi_take(service, worker, &lock, 1));
-        work_with(from, to);
-        if (round % 5 == 0) {
-            EXPECT(OK, wakhurmi_enter(service, worker));
-            EXPECT(OK, wakhurmi_leave(service, worker));
-            work_with(from, to);
-        }
-        EXPECT(OK, wakhurmi_hand_back(service, worker));
+        end_round(service, worker, lock == PROJECTS ? all : &all[lock], lock == PROJECTS ? PROJECTS : 1, round % 5 == 0, work_with);
     }
     return NULL;
 }
@@ -366,13 +360,7 @@ static void *use_rounds(void *argument) {
         } else {
             EXPECT(OK, wakhurmi_take_uses(service, worker, services, count));
         }
-        use(services, count);
-        if (round % 5 == 0) {
-            EXPECT(OK, wakhurmi_enter(service, worker));
-            EXPECT(OK, wakhurmi_leave(service, worker));
-            use(services, count);
-        }
-        EXPECT(OK, wakhurmi_hand_back(service, worker));
+        end_round(service, worker, services, count, round % 5 == 0, use);
     }
     return NULL;
 }

@@ -5,37 +5,12 @@
  *     c_plan_refused
  *
  * It is linked with --wrap for malloc, realloc, calloc and aligned_alloc. */
-#include "../c_common.h"
+#include "../c_refusing.h"
 #include <unistd.h>
 
 enum { TASKS = 6, ITEMS = 3, MOST_REFUSED = 20000, ROOM = 1 << 16, LIMIT = 600 };
 
-void *__real_malloc(size_t size);
-void *__real_realloc(void *at, size_t size);
-void *__real_calloc(size_t count, size_t size);
-void *__real_aligned_alloc(size_t alignment, size_t size);
-
-/* Which of the next allocations is refused, from 1 on, or 0, and how many there were. */
-static int refused, calls;
-
-static bool refuses(void) { return refused > 0 && ++calls == refused; }
-
 void *__wrap_malloc(size_t size) { return refuses() ? NULL : __real_malloc(size); }
-void *__wrap_realloc(void *at, size_t size) { return refuses() ? NULL : __real_realloc(at, size); }
-void *__wrap_calloc(size_t count, size_t size) { return refuses() ? NULL : __real_calloc(count, size); }
-void *__wrap_aligned_alloc(size_t alignment, size_t size) { return refuses() ? NULL : __real_aligned_alloc(alignment, size); }
-
-static void refuse(int number) {
-    refused = number;
-    calls = 0;
-}
-
-/* Whether the allocation to be refused came. None is refused from now on. */
-static bool was_refused(void) {
-    bool was = calls >= refused;
-    refused = 0;
-    return was;
-}
 
 /* How many calls have answered NO_MEMORY. One refused allocation gives at most one. */
 static int unmade;
@@ -161,18 +136,11 @@ static bool check_run(int number) {
     return was;
 }
 
-/* How many allocations there are to refuse. */
-static int refuse_each(bool (*check)(int number)) {
-    int number = 1;
-    while (check(number)) demand(++number < MOST_REFUSED, "an end to the allocations");
-    return number - 1;
-}
-
 int main(void) {
     alarm(LIMIT);
     refuse(0);
     check_calls(0);
-    demand(refuse_each(check_calls) > 20, "a plan's calls take memory");
-    demand(refuse_each(check_run) > 5, "a run takes memory");
+    demand(refuse_each(check_calls, MOST_REFUSED) > 20, "a plan's calls take memory");
+    demand(refuse_each(check_run, MOST_REFUSED) > 5, "a run takes memory");
     return 0;
 }

@@ -5,21 +5,11 @@
  *     c_refused
  *
  * It is linked with --wrap for malloc, realloc, calloc and aligned_alloc. */
-#include "../c_common.h"
+#include "../c_refusing.h"
 #include <unistd.h>
 
 enum { ENTRIES = 40, KEPT = 200, ROUNDS = 1500, MOST_REFUSED = 1000, ROOM = 1 << 16, LIMIT = 600 };
 enum { LARGE = 1 << 14, MEANWHILE = 3000, FEW = 128 };
-
-void *__real_malloc(size_t size);
-void *__real_realloc(void *at, size_t size);
-void *__real_calloc(size_t count, size_t size);
-void *__real_aligned_alloc(size_t alignment, size_t size);
-
-/* Which of the next allocations is refused, from 1 on, or 0, and how many there were. */
-static int refused, calls;
-
-static bool refuses(void) { return refused > 0 && ++calls == refused; }
 
 static void make_awaited(void);
 static void try_busy(void);
@@ -28,21 +18,6 @@ void *__wrap_malloc(size_t size) {
     if (size >= LARGE) make_awaited();
     try_busy();
     return refuses() ? NULL : __real_malloc(size);
-}
-void *__wrap_realloc(void *at, size_t size) { return refuses() ? NULL : __real_realloc(at, size); }
-void *__wrap_calloc(size_t count, size_t size) { return refuses() ? NULL : __real_calloc(count, size); }
-void *__wrap_aligned_alloc(size_t alignment, size_t size) { return refuses() ? NULL : __real_aligned_alloc(alignment, size); }
-
-static void refuse(int number) {
-    refused = number;
-    calls = 0;
-}
-
-/* Whether the allocation to be refused came. None is refused from now on. */
-static bool was_refused(void) {
-    bool was = calls >= refused;
-    refused = 0;
-    return was;
 }
 
 static wakhurmi_service *service;
@@ -245,21 +220,14 @@ static void check_meanwhile(void) {
 static bool check_new(int number) { return check_taking(number, true); }
 static bool check_old(int number) { return check_taking(number, false); }
 
-/* How many allocations there are to refuse. */
-static int refuse_each(bool (*check)(int number)) {
-    int number = 1;
-    while (check(number)) demand(++number < MOST_REFUSED, "an end to the allocations");
-    return number - 1;
-}
-
 int main(void) {
     alarm(LIMIT);
-    demand(refuse_each(check_new) > 3, "a new part takes memory");
-    demand(refuse_each(check_old) > 0, "a text takes memory");
-    demand(refuse_each(check_opening) > 3, "an opening takes memory");
-    demand(refuse_each(check_opening_with_maxima) > 4, "an opening with maxima takes memory");
-    demand(refuse_each(check_uses) > 1, "uses take memory");
-    demand(refuse_each(check_dropping) > 3, "entries take memory");
+    demand(refuse_each(check_new, MOST_REFUSED) > 3, "a new part takes memory");
+    demand(refuse_each(check_old, MOST_REFUSED) > 0, "a text takes memory");
+    demand(refuse_each(check_opening, MOST_REFUSED) > 3, "an opening takes memory");
+    demand(refuse_each(check_opening_with_maxima, MOST_REFUSED) > 4, "an opening with maxima takes memory");
+    demand(refuse_each(check_uses, MOST_REFUSED) > 1, "uses take memory");
+    demand(refuse_each(check_dropping, MOST_REFUSED) > 3, "entries take memory");
     check_meanwhile();
     check_busy();
     return 0;
