@@ -6,7 +6,8 @@ service and by a plain mutex for each lock. Then one thread enters and leaves bl
 again and again. Then eight threads have a lock each, most of the time, and a ninth takes all eight at once. Each row of a service is judged: the
 fewest rounds of a thread are at least half the most, and no take and no leave waits for longer than 100 ms, the ninth thread's too.
 
-The archive is made by c/build.sh, which proves crates/wakhurmi_c where that is still to be done. Not part of the gate.
+The archive is made by c/build.sh, which proves crates/wakhurmi_c where that is still to be done and WAKHURMI_PROVED names none. That takes many minutes.
+Not part of the gate.
 
     bench/c_turns.py [SECONDS]
 
@@ -34,7 +35,8 @@ LONGEST = 100
 
 
 def build(folder: pathlib.Path) -> pathlib.Path:
-    subprocess.run([str(TOP / "c/build.sh"), str(folder)], check=True, stdout=subprocess.DEVNULL)
+    # What it says stands beside the rows: where it proves, that is all there is for many minutes.
+    subprocess.run([str(TOP / "c/build.sh"), str(folder)], check=True, stdout=sys.stderr)
     program = folder / "c_turns"
     source = TOP / "bench/programs/c_turns/c_turns.c"
     words = ["cc", "-O2", "-Wall", "-Wextra", "-Werror", f"-I{folder}", str(source), "-o", str(program), f"-L{folder}", "-lwakhurmi", "-pthread"]

@@ -10,13 +10,13 @@
  * without, the next is woken in its place. Where it is kept back, so are they, who came later. A call that was woken though it is represented, by a stop
  * or its deadline, looks for itself. Of a shared service another use may be had, so there nobody is represented.
  *
- * Of the calls that wait for a lease the first is woken for one that was given back: it brings the lease. While one is awake so, a lease that is given
- * back is noted as left, and no other is woken for it. But where the turn of who gave it back has ended (queue.h), that worker won't take it again at
- * once, so one more call is woken. A call that brought a lease and takes one has the next woken where a lease is left. So it does where it lacked a lock, is
- * kept back, or ends: then it leaves its own. How many are left isn't counted: none is, once a call looked in vain, all leases are out behind its look,
- * and none was given back since it began. Then others have taken them, and will give them back. So while a lease is free for which somebody in the list
- * may wait, somebody is awake for it. Calls that aren't kept back any more for one that had found all leases out wait for a lease. Of those that were
- * given back meanwhile one may be left, as far as anybody knows.
+ * Of the calls that wait for a lease the first is woken for one that was given back: it brings the lease. While one is awake so, another lease that is
+ * given back is noted as left, and nobody is woken for it, but where the turn of who gave it back has ended (queue.h): that worker won't take it again at
+ * once. Who brought a lease and lacked a lock, was kept back, or has ended without it leaves that. Behind each of its looks, and where it ends, the next
+ * is woken if a lease is left. How many are left isn't counted: none is where a call looked in vain, all leases are out behind its look, and nothing
+ * was given back since that began. Then others have taken them, and will give them back. So while a lease is free for which somebody in the list may wait,
+ * somebody is awake for it. Calls that aren't kept back any more for one that had found all leases out wait for a lease. Whether one was given back
+ * meanwhile isn't known, so one is taken to be left.
  *
  * Whether a lease may be all that a call waits for it asks behind its look. Then all leases are out, or they aren't any more. In the second case
  * one may have been given back since the look. By a call whose news came since the look began: then another may have been woken for it, so this
@@ -81,7 +81,7 @@ static void wake_for_lease(wakhurmi_service *service, const sleeper *but) {
     }
 }
 
-/* A call has ended its look, or the sleep. If it brought a lease it may leave one to others. */
+/* A call has ended its look, or ends. If it brought a lease it may leave one to others. */
 static void end_bringing(wakhurmi_service *service, sleeper *own, bool leaves_lease) {
     if (own->brings_lease) {
         own->brings_lease = false;
@@ -213,7 +213,7 @@ static void end_vain_look(wakhurmi_service *service, slot *held, sleeper *own) {
     memcpy(own->inside, inside, sizeof inside);
     if (found_none && !has_changed) service->is_lease_left = false;
     note_found_none(service, own, found_none);
-    /* With news it looks again for the lease that it brings. */
+    /* With news it looks again, for what it brings too. */
     if (!own->has_news) end_bringing(service, own, !found_none);
     pthread_mutex_unlock(&service->mutex);
 }
@@ -336,6 +336,7 @@ static void end_sleep(wakhurmi_service *service, sleeper *own, bool has_taken) {
         note_whether(service, SOMEBODY_QUEUED, service->queue.length > 0);
         let_kept_go_on(service, has_taken ? own : NULL);
     }
+    /* With news it may have brought one more than it has taken. */
     end_bringing(service, own, !has_taken || own->has_news);
     pthread_mutex_unlock(&service->mutex);
 }
