@@ -351,6 +351,9 @@ class InterfaceTests(unittest.TestCase):
     def test_uses_of_shared_services(self) -> None:
         self.assert_replayed(self.said_by([self.bench_program("c_options"), "uses", "8", "3000"]))
 
+    def test_who_is_woken_step_by_step(self) -> None:
+        self.assertEqual(self.said_by([self.bench_program("c_steps")]), "")
+
     def test_as_many_workers_as_may_be(self) -> None:
         """Their histories are beyond what the program reads."""
         program = self.bench_program("c_many")

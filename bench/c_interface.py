@@ -13,6 +13,7 @@ The archive is made by c/build.sh, which needs the command rt and proves crates/
   owner a lock; the history is replayed and checked;
 * bench/programs/c_options opens services with the all-projects lock, and with the maxima of shared services; eight threads take them, never beside each
   other's and never more than may be, and their histories are replayed;
+* bench/programs/c_steps makes the steps of calls that wait in one thread, and compares whom they wake with what is known beforehand;
 * bench/programs/c_many has 256 workers that take locks of their own, or share eight locks and fewer leases; their histories are replayed;
 * bench/programs/c_plan runs plans that are made by numbers on 1 to 32 threads, compares each outcome with a reckoning of its own, and stops some;
   histories are replayed by examples/plan-in-c/replay.py. bench/programs/c_plan_refused refuses memory to each allocation of a plan;
@@ -46,7 +47,7 @@ import measure
 TOP = measure.TOP
 EXAMPLE, PLANS = TOP / "examples/embedding-in-c", TOP / "examples/plan-in-c"
 LEASES = pathlib.Path(sys.argv[1]).resolve() if len(sys.argv) > 1 else TOP / "out/leases"
-NAMES = ("c_rounds", "c_options", "c_calls", "c_cancel", "c_history", "c_refused", "c_turns", "c_taking", "c_many", "c_plan", "c_plan_refused")
+NAMES = ("c_rounds", "c_options", "c_calls", "c_steps", "c_cancel", "c_history", "c_refused", "c_turns", "c_taking", "c_many", "c_plan", "c_plan_refused")
 PROGRAMS = [TOP / f"bench/programs/{name}/{name}.c" for name in NAMES] + [EXAMPLE / "eight.c"]
 # Programs that refuse memory have calls of these from the archive come to functions of their own.
 WRAPS = [f"-Wl,--wrap={name}" for name in ("malloc", "realloc", "calloc", "aligned_alloc")]
@@ -130,6 +131,7 @@ def check_plans(program: pathlib.Path, rounds: int, tool: list[str], what: str) 
 
 def check(made: pathlib.Path, rounds: int, cancelled: int, tool: list[str], what: str) -> None:
     call([*tool, str(made / "c_calls")], env=SETTINGS)
+    call([*tool, str(made / "c_steps")], env=SETTINGS)
     call([*tool, str(made / "c_history"), "calls"], env=SETTINGS)
     call([*tool, str(made / "c_options"), "calls"], env=SETTINGS)
     call([*tool, str(made / "c_refused")], env=SETTINGS)
