@@ -12,7 +12,7 @@
  *
  * Two kinds of calls aren't kept back. That of a worker that has a lease or locks: the queued one may wait for just these. And one that
  * was kept back for KEPT_BACK in all: a worker may have a lock, and wait outside of this service for the one that is kept back. For a lease's sake
- * alone that of a worker in its turn isn't either, nor one that was woken for a lease: there is one more free.
+ * alone that of a worker in its turn isn't either, nor one that was woken for a lease: there may be one more free.
  *
  * A wakhurmi_leave is queued and kept back as a take of the locks that its worker had when it entered. Which these are the proved part tells when
  * such a call is about to sleep, so no other call notes what it took. */
