@@ -95,11 +95,16 @@ static void demand_news(unsigned wanted, const char *what) {
 #define ONLY(worker) (1u << (worker))
 #define NOBODY 0u
 
-/* Two leases are given back while one call is awake for the first. */
-static void try_next_behind_taker(void) {
+/* Two workers have the leases, and calls of the others wait for one. */
+static void open_with_three_asleep(void) {
     open_service();
     for (uint32_t worker = 0; worker < 2; worker++) take(worker, locks, 0);
     for (uint32_t worker = 2; worker < WORKERS; worker++) sleep_in_vain(worker, locks, 0);
+}
+
+/* Two leases are given back while one call is awake for the first. */
+static void try_next_behind_taker(void) {
+    open_with_three_asleep();
     hand_back(0);
     demand_news(ONLY(2), "the first is woken for a lease");
     hand_back(1);
@@ -117,9 +122,7 @@ static void try_next_behind_taker(void) {
 
 /* Those that gave leases back are quicker than the call that is woken. */
 static void try_nobody_behind_one_in_vain(void) {
-    open_service();
-    for (uint32_t worker = 0; worker < 2; worker++) take(worker, locks, 0);
-    for (uint32_t worker = 2; worker < WORKERS; worker++) sleep_in_vain(worker, locks, 0);
+    open_with_three_asleep();
     for (uint32_t worker = 0; worker < 2; worker++) hand_back(worker);
     demand_news(ONLY(2), "one is awake for a lease");
     for (uint32_t worker = 0; worker < 2; worker++) take(worker, locks, 0);
