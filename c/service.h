@@ -57,10 +57,12 @@ struct wakhurmi_service {
     uint32_t *maxima; /* Theirs, in place of locks, or null. */
     unsigned forks;
     atomic_uint usual; /* `forks`, with those of the notes below that hold. */
-    queue queue; /* Under the mutex, as the next six. */
+    queue queue; /* Under the mutex, as the next eight. */
     uint64_t arrivals, given_back; /* How many calls slept, and how often something was given back while some did. */
     uint32_t bringers;  /* So many calls bring a lease. */
     bool is_lease_left; /* One may have been given back for which nobody was woken. */
+    lock_marks marks_awaited; /* Of the locks that calls which sleep take. */
+    bool some_are_unsure; /* A call that doesn't wait for a lease may yet be woken for one, by who was inside. */
     uint32_t asleep_count;
     sleeper **asleep; /* The calls that sleep, or are about to, in the order in which they came. */
     slot book;

@@ -98,17 +98,16 @@ static moment length_of_turn(const wakhurmi_service *service) {
     return length < LONGEST_TURN ? length : LONGEST_TURN;
 }
 
-/* Wakes those that may go on by what a worker has just given back: a lease, and locks. The mutex isn't locked. */
-SELDOM void wake_by(wakhurmi_service *service, uint32_t worker) {
-    const moment time = now();
-    bool is_lease_left = true;
-    pthread_mutex_lock(&service->mutex);
+/* Wakes those that may go on by what a worker gives back at this time: a lease, and the locks of these marks. */
+static void wake_for(wakhurmi_service *service, uint32_t worker, lock_marks marks, moment time) {
     const moment turn = length_of_turn(service), had = time - service->sleeping[worker].turn_began;
-    service->given_back++;
+    bool is_lease_left = true;
+    service->some_are_unsure = false;
     for (uint32_t at = 0; at < service->asleep_count; at++) {
         sleeper *found = service->asleep[at];
         if (found->is_kept_back || found->is_represented) continue;
-        bool lacks_lock = (found->marks & service->workers[worker].marks) != 0;
+        service->some_are_unsure = service->some_are_unsure || (found->may_lack_lease && !found->awaits_lease);
+        bool lacks_lock = (found->marks & marks) != 0;
         if (!lacks_lock && !found->awaits_lease && !was_inside(found, worker)) continue;
         bool is_its_turn = had >= (lacks_lock ? turn : turn * service->max_leases) && time - found->came >= PATIENCE;
         if (is_lease_left && found->may_lack_lease && !found->brings_lease && (service->bringers == 0 || is_its_turn)) {
@@ -118,6 +117,26 @@ SELDOM void wake_by(wakhurmi_service *service, uint32_t worker) {
         if (lacks_lock || found->brings_lease || !found->awaits_lease) tell_in_turn(service, found, is_its_turn);
     }
     service->is_lease_left |= is_lease_left;
+}
+
+/* Whether those that sleep wait for a lease alone, somebody is awake for one, and who gave one back may take it again: so nobody has to be woken. */
+static bool is_enough_awake(const wakhurmi_service *service, uint32_t worker, lock_marks marks, moment time) {
+    moment had = time - service->sleeping[worker].turn_began;
+    bool is_for_lease = (service->marks_awaited & marks) == 0 && !service->some_are_unsure;
+    return is_for_lease && service->bringers > 0 && had < length_of_turn(service) * service->max_leases;
+}
+
+/* The same for what a worker has just given back. The mutex isn't locked. */
+SELDOM void wake_by(wakhurmi_service *service, uint32_t worker) {
+    const lock_marks marks = service->workers[worker].marks;
+    const moment time = now();
+    pthread_mutex_lock(&service->mutex);
+    service->given_back++;
+    if (is_enough_awake(service, worker, marks, time)) {
+        service->is_lease_left = true;
+    } else {
+        wake_for(service, worker, marks, time);
+    }
     pthread_mutex_unlock(&service->mutex);
 }
 
@@ -196,6 +215,9 @@ static void note_inside(wakhurmi_service *service, uint64_t *inside) {
     }
 }
 
+/* Whether something was given back since a call began its look. */
+static bool has_changed_since(const wakhurmi_service *service, const sleeper *own) { return service->given_back != own->given_back; }
+
 /* Notes what a call waits for that looked in vain. */
 static void end_vain_look(wakhurmi_service *service, slot *held, sleeper *own) {
     uint32_t leases = 0, answer = WAKHURMI_OK;
@@ -208,12 +230,14 @@ static void end_vain_look(wakhurmi_service *service, slot *held, sleeper *own) {
     bool found_none = own->may_lack_lease && answer == WAKHURMI_OK && leases == service->max_leases;
     if (own->may_lack_lease && !found_none) note_inside(service, inside);
     pthread_mutex_lock(&service->mutex);
-    bool has_changed = service->given_back != own->given_back; /* Since it began to look. */
+    bool has_changed = has_changed_since(service, own);
     own->awaits_lease = own->may_lack_lease && (found_none || answer != WAKHURMI_OK || has_changed);
+    if (own->may_lack_lease && !own->awaits_lease) service->some_are_unsure = true;
     memcpy(own->inside, inside, sizeof inside);
     if (found_none && !has_changed) service->is_lease_left = false;
     note_found_none(service, own, found_none);
-    /* With news it looks again, for what it brings too. */
+    /* Who brings a lease isn't always told what is given back while it looks. With news it looks again, for what it brings too. */
+    if (own->brings_lease && has_changed) tell_news(own);
     if (!own->has_news) end_bringing(service, own, !found_none);
     pthread_mutex_unlock(&service->mutex);
 }
@@ -290,6 +314,7 @@ static sleeper *begin_sleep(wakhurmi_service *service, uint32_t worker, request 
     own->overtaken = 0;
     memset(own->inside, 0, sizeof own->inside);
     own->call.number = service->arrivals++;
+    service->marks_awaited |= own->marks;
     service->asleep[service->asleep_count++] = own;
     pthread_mutex_unlock(&service->mutex);
     return own;
@@ -301,6 +326,8 @@ static uint32_t leave_list(wakhurmi_service *service, const sleeper *own) {
     while (service->asleep[place] != own) place++;
     service->asleep_count--;
     for (uint32_t at = place; at < service->asleep_count; at++) service->asleep[at] = service->asleep[at + 1];
+    service->marks_awaited = 0;
+    for (uint32_t at = 0; at < service->asleep_count; at++) service->marks_awaited |= service->asleep[at]->marks;
     return place;
 }
 
@@ -336,7 +363,7 @@ static void end_sleep(wakhurmi_service *service, sleeper *own, bool has_taken) {
         note_whether(service, SOMEBODY_QUEUED, service->queue.length > 0);
         let_kept_go_on(service, has_taken ? own : NULL);
     }
-    /* With news it may have brought one more than it has taken. */
-    end_bringing(service, own, !has_taken || own->has_news);
+    /* Where something was given back meanwhile, that may be one more lease than it has taken. */
+    end_bringing(service, own, !has_taken || has_changed_since(service, own));
     pthread_mutex_unlock(&service->mutex);
 }

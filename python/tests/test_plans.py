@@ -328,7 +328,7 @@ class RunTests(PlanCase):
             plan.action(plan.task(lock), 50)
 
         def work(service: PlannedService, job: Job) -> None:
-            if job.kind is Kind.ITEM and job.item == 3:
+            if job.kind is Kind.ITEM and (job.task, job.item) == (0, 3):
                 service.stop()
 
         with plan.run(work, 3) as service:
