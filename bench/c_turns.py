@@ -13,10 +13,10 @@ Not part of the gate.
 
 SECONDS is for each row, 3 where it isn't given.
 
-Measured with the proved part compiled without its proof, 2 seconds a row, beside some five other processes on four processors: by a service the
-fewest rounds of a thread are 0.65 to 0.97 of the most, and no take waits longer than 39 ms; by mutexes 0.20 to 0.75, and 685 ms. With blocking sections
-0.60 to 0.98, and 45 ms. The ninth thread has 411 rounds where the others had at most 827, and waits 6 ms at most. A service makes 0.47 to 1.12 of the
-mutexes' rounds. Beside fifteen others the longest wait was 68 ms, with blocking sections 170 ms.
+Measured with the proved part compiled without its proof, 2 seconds a row, on four processors with nothing beside: by a service the fewest rounds of
+a thread are 0.59 to 0.99 of the most, and no take waits longer than 23 ms; by mutexes 0.03 to 0.80, and 1,226 ms. With blocking sections 0.77 to 1.00, and
+43 ms. The ninth thread has 404 rounds where the others had at most 808, and waits 5 ms at most. A service makes 0.42 to 0.99 of the mutexes' rounds. In a
+run of 3 seconds a row in which mutexes too made but six tenths of their rounds the longest wait was 400 ms, with blocking sections 105 ms.
 """
 
 import pathlib
