@@ -13,10 +13,11 @@ Not part of the gate.
 
 SECONDS is for each row, 3 where it isn't given.
 
-Measured with the proved part compiled without its proof, 2 seconds a row, on four processors with nothing beside: by a service the fewest rounds of
-a thread are 0.59 to 0.99 of the most, and no take waits longer than 23 ms; by mutexes 0.03 to 0.80, and 1,226 ms. With blocking sections 0.77 to 1.00, and
-43 ms. The ninth thread has 404 rounds where the others had at most 808, and waits 5 ms at most. A service makes 0.42 to 0.99 of the mutexes' rounds. In a
-run of 3 seconds a row in which mutexes too made but six tenths of their rounds the longest wait was 400 ms, with blocking sections 105 ms.
+Measured with the proved part compiled without its proof, on four processors of a virtual machine, with no other work of its own: by a service the fewest
+rounds of a thread are 0.70 to 0.99 of the most, and no take waits longer than 21 ms; by mutexes 0.18 to 0.92, and 992 ms. With blocking sections 0.78 to
+0.99, and 40 ms. The ninth thread has 608 rounds where the others had at most 1,219, and waits 4 ms at most. A service makes 0.43 to 0.99 of the mutexes'
+rounds. A run of 2 seconds a row had 0.59 and 43 ms. In a third run, of 3 seconds, takes waited 400 ms and 163 ms, with 32 threads and 2 and 20
+microseconds, and a call of the rows with sections 105 ms; mutexes made 0.57 to 0.95 of their rounds there. Why isn't known.
 """
 
 import pathlib
