@@ -40,11 +40,21 @@ mod taking_back;
 /// the state is what it leads to. An index of the state tells in a few steps what can be done next.
 ///
 /// The entries so far can be given away (`give`): the history is then as it was, but those entries can't be read here.
-#[derive(Drop)]
 pub struct Book {
     tentative: Tentative,
     history: History,
     ready: ReadyWork,
+}
+
+// By hand, so that crates that let one go call this, in place of proving what it does anew.
+impl Drop for Book {
+    fn drop(self) {
+        let Book {
+            tentative: _,
+            history: _,
+            ready: _,
+        } = self;
+    }
 }
 
 impl Model for Book {

@@ -70,6 +70,7 @@ impl ReadyWork {
     /// Follows changes of a worker, from the state before them to this one after them, or, where they
     /// were taken back, from the state after them to this one before them. It takes no memory, and
     /// looks only at what the changes touch.
+    #[inline]
     pub fn follow(&mut self, graph: &Graph, state: &State, changes: &[Change])
         requires { (before : StateView) × (w : WorkerId) × Follows graph.now before w changes.now state.now self.old }
         ensures { IsIndexOf graph.now state.now self.new }
@@ -135,6 +136,7 @@ impl ReadyWork {
     }
 
     // Looks at what a change touches, in the state after all changes, or after all were taken back.
+    #[inline(always)]
     fn note(&mut self, graph: &Graph, state: &State, change: &Change)
         requires made { IsMadeFor graph.now self.old }
         requires belongs { BelongsTo graph.now state.now }
@@ -150,6 +152,7 @@ impl ReadyWork {
     }
 
     // Looks at a unit whose mark has moved.
+    #[inline(never)]
     fn note_unit(&mut self, state: &State, unit: u32)
         requires within { unit < length state.now.units }
         requires room { unit < room_of self.old.open_units }
@@ -165,6 +168,7 @@ impl ReadyWork {
     }
 
     // Looks at a lock that was taken or given back.
+    #[inline(never)]
     fn note_lock(&mut self, state: &State, lock: LockId)
         requires within { IsLockOf state.now lock }
         requires room { lock.0 < room_of self.old.tasks.startable.free }
@@ -179,6 +183,7 @@ impl ReadyWork {
     }
 
     // Looks at a task whose mark has moved, and at its dependents where that matters to them.
+    #[inline(never)]
     fn note_task(&mut self, graph: &Graph, state: &State, task: u32)
         requires made { IsMadeFor graph.now self.old }
         requires belongs { BelongsTo graph.now state.now }
