@@ -7,6 +7,7 @@ pub mod Digests
 pub mod Stored
 pub mod Pushed
 pub mod Adding
+pub mod EntryFollowed
 pub mod Behind
 pub mod TakingBack
 pub mod Giving

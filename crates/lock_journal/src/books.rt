@@ -2,6 +2,7 @@
 ghost use Rattle.std.specs.Prelude.{◌≡◌, ◌↔◌, ◌<◌, ◌≤◌, ◌+◌, ◌⊎◌, true, [], List, length, IsTrue, Some, OnOk, OnErr};
 ghost use Rattle.std.specs.Prelude.{IfNone, IfOk, IfSome, All, slice_get};
 ghost use Rattle.resource_lock.specs.declared.changes.Change.{Change};
+ghost use Rattle.resource_lock.specs.declared.ids.WorkerId.{WorkerId};
 ghost use Rattle.resource_lock.specs.Fits.{Fits};
 ghost use Rattle.resource_lock.specs.Good.{Good};
 ghost use Rattle.resource_lock.specs.Marks.{has_ended};
@@ -9,8 +10,10 @@ ghost use Rattle.resource_lock.specs.Opening.{opening_of};
 ghost use Rattle.resource_lock.specs.Shape.{BelongsTo};
 ghost use Rattle.ready_work.specs.Choices.{CanSkip, CanStart, IsOpenUnit, IsQueued, has_queued};
 ghost use Rattle.ready_work.specs.Lowest.{IsFrom, IsLowest, IsNone};
+ghost use Rattle.ready_work.specs.ReadyWork.{IsIndexOf};
+ghost use Rattle.lock_journal.specs.Book.{FollowsEntry};
 ghost use Rattle.lock_journal.specs.BookView.{begun};
-ghost use Rattle.lock_transforms.specs.Entry.{replay};
+ghost use Rattle.lock_transforms.specs.Entry.{entry, replay};
 ghost use Rattle.lock_journal.specs.Changes.{changes_left};
 ghost use Rattle.lock_journal.specs.Shown.{entry_shown};
 ghost use Rattle.lock_journal.specs.Closings.{outcome_of};
@@ -20,13 +23,14 @@ ghost use Rattle.lock_journal.specs.Bounds.{IsFitKind};
 ghost use Rattle.lock_journal.specs.Ran.{FinishesIn, FailsIn, IsToRetry};
 ghost use Rattle.lock_journal.specs.declared.segments.TheConstants.{MOST_BEFORE};
 ghost use Rattle.lock_transforms.specs.MostChanges.{IsRoomFor};
+ghost use Rattle.lock_transforms.specs.TentativeView.{TentativeView};
 
 use crate::histories::History;
 use crate::shown_changes::Changes;
 use crate::shown_entries::Shown;
 use item_actions::Outcome;
 use lock_transforms::kinds::room_for_any;
-use lock_transforms::{Disposition, Tentative, Transform};
+use lock_transforms::{Disposition, Kind, Tentative, Transform};
 use ready_work::ReadyWork;
 use resource_lock::{Graph, LockId, Mark, MarkId, State, WorkerId};
 use std::alloc::{AllocError, Global};
@@ -327,17 +331,28 @@ impl Book {
         let disposition = self.tentative.attempt(worker, own, transform);
         match disposition {
             Disposition::Finished => {
+                let kind = transform.kind();
                 self.history
-                    .push_finished(worker, &transform.kind(), self.tentative.made());
-                self.ready.follow(
-                    self.tentative.graph(),
-                    self.tentative.state(),
-                    self.tentative.made(),
-                );
+                    .push_finished(worker, &kind, self.tentative.made());
+                follow_entry(&mut self.ready, &self.tentative, &kind);
             }
             Disposition::Failed => self.history.push_failed(worker, &transform.kind()),
             Disposition::Retry => {}
         }
         Ok(disposition)
+    }
+}
+
+// Has the index follow an entry of this kind, whose changes led from the state before it to this one.
+#[inline(always)]
+fn follow_entry(ready: &mut ReadyWork, work: &Tentative, kind: &Kind)
+    requires { (before : TentativeView) × (w : WorkerId) × FollowsEntry before work.now (entry w kind.now (Some work.now.made)) ready.old }
+    ensures { IsIndexOf work.now.graph work.now.state ready.new }
+{
+    let state = work.state();
+    match *kind {
+        Kind::Claim(unit) => ready.follow_claim(unit),
+        Kind::Close(closed) => ready.follow_close(closed.unit),
+        _ => ready.follow(work.graph(), state, work.made()),
     }
 }

@@ -240,7 +240,7 @@ pub noted_lock : (g : GraphView) (s : StateView) (c : Change) (lock : LockId) (o
 noted_lock g s c lock old new (inl is) same free tasks = subst (λ (d : Change). Notes g s d old new) (sym is) (looked_at_lock g s (Lock lock) lock old new (λ k t. t) (λ k t. t) (λ k own. own) same free tasks)
 noted_lock g s c lock old new (inr is) same free tasks = subst (λ (d : Change). Notes g s d old new) (sym is) (looked_at_lock g s (Unlock lock) lock old new (λ k t. t) (λ k t. t) (λ k own. own) same free tasks)
 
-all_at : (s : StateView) (cs : List Change) (i : ℕ) (d : Change) → AllByRecursion (NamesOnly s) cs → i < length cs → NamesOnly s (get_or cs i d)
+pub all_at : (s : StateView) (cs : List Change) (i : ℕ) (d : Change) → AllByRecursion (NamesOnly s) cs → i < length cs → NamesOnly s (get_or cs i d)
 all_at s [] i d all lt = absurd (omega arith)
 all_at s (c ∷ cs) zero d all lt = all.0
 all_at s (c ∷ cs) (suc i) d all lt = all_at s cs i d all.1 (omega arith)
@@ -253,7 +253,7 @@ pub named_after : (g : GraphView) (before : StateView) (w : WorkerId) (changes :
 named_after g before w changes s ready i d f lt = all_at s changes i d (named_where_led before s w changes f.led) lt
 
 -- what one change touches was looked at
-next_looked : (g : GraphView) (s : StateView) (c : Change) (cs : List Change) (old new : ReadyWork) → Notes g s c old new → IsIndexBut g s (TouchUnit (c ∷ cs)) (TouchTask (c ∷ cs)) (TouchLock (c ∷ cs)) old → IsIndexBut g s (TouchUnit cs) (TouchTask cs) (TouchLock cs) new
+pub next_looked : (g : GraphView) (s : StateView) (c : Change) (cs : List Change) (old new : ReadyWork) → Notes g s c old new → IsIndexBut g s (TouchUnit (c ∷ cs)) (TouchTask (c ∷ cs)) (TouchLock (c ∷ cs)) old → IsIndexBut g s (TouchUnit cs) (TouchTask cs) (TouchLock cs) new
 next_looked g s c cs old new notes is = record {
   made = record {
     fits = is.made.fits;

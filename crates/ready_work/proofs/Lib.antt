@@ -11,6 +11,7 @@ pub mod TaskLooks
 pub mod ByCount
 pub mod Opening
 pub mod Following
+pub mod OneUnit
 pub mod QueuedUnits
 pub mod Unowned
 pub mod Heads

@@ -7,8 +7,10 @@ use Rattle.resource_lock.specs.GraphView.{GraphView}
 use Rattle.resource_lock.specs.Shape.{BelongsTo}
 use Rattle.resource_lock.specs.StateView.{StateView}
 use Rattle.resource_lock.specs.declared.changes.Change.{Change}
-use Rattle.resource_lock.specs.declared.changes.Change.TheVariants.{Lock, Move, Unlock}
+use Rattle.resource_lock.specs.declared.changes.Change.TheVariants.{Give, Lock, Move, Take, Unlock}
 use Rattle.resource_lock.specs.declared.ids.WorkerId.{WorkerId}
+use Rattle.resource_lock.specs.declared.marks.Mark.{Mark}
+use Rattle.resource_lock.specs.declared.marks.Mark.TheVariants.{Queued, Running}
 use Rattle.resource_lock.specs.declared.marks.MarkId.TheVariants.{Task as TaskOf, Unit as UnitOf}
 use Rattle.ready_work.specs.Choices.{IsFree, IsOpenUnit, IsQueued}
 use Rattle.ready_work.specs.Dependents.{AreDependents}
@@ -95,3 +97,16 @@ pub record Follows (g : GraphView) (before : StateView) (w : WorkerId) (changes 
   pub belongs : BelongsTo g s
   pub led : Lead before s w changes ⊎ Lead s before w changes
   pub index : IsIndexOf g before ready
+
+-- The index is that of the state before, and the changes led from there to this state of the graph.
+pub record FollowsOn (g : GraphView) (before : StateView) (w : WorkerId) (changes : List Change) (s : StateView) (ready : ReadyWork) : Type 0 where
+  pub belongs : BelongsTo g s
+  pub led : Lead before s w changes
+  pub index : IsIndexOf g before ready
+
+-- the changes that make a queued unit run by a worker, and those that end one
+abbrev pub claimed_unit : WorkerId → ℕ → List Change
+claimed_unit w u = Take ∷ Move (UnitOf u) Queued (Running w) ∷ []
+
+abbrev pub closed_unit : WorkerId → ℕ → Mark → List Change
+closed_unit w u to = Move (UnitOf u) (Running w) to ∷ Give ∷ []

@@ -6,10 +6,11 @@ ghost use Rattle.resource_lock.specs.Marks.{has_ended};
 ghost use Rattle.resource_lock.specs.Shape.{BelongsTo};
 ghost use Rattle.resource_lock.specs.StateView.{StateView, IsLockOf};
 ghost use Rattle.resource_lock.specs.declared.ids.WorkerId.{WorkerId};
+ghost use Rattle.resource_lock.specs.declared.marks.Mark.{Mark};
 ghost use Rattle.ready_work.specs.Choices.{CanSkip, CanStart, IsFree, IsOpenUnit, IsQueued};
 ghost use Rattle.ready_work.specs.Lowest.{IsFrom, IsLowest, IsNone};
 ghost use Rattle.ready_work.specs.NumberSetView.{room_of};
-ghost use Rattle.ready_work.specs.ReadyWork.{Follows, IsIndexOf, IsMadeFor, Notes};
+ghost use Rattle.ready_work.specs.ReadyWork.{Follows, FollowsOn, IsIndexOf, IsMadeFor, Notes, claimed_unit, closed_unit};
 ghost use Rattle.ready_work.specs.Sets.{IsSetOf, Looks, LooksWhereKept, NoNumber, PutsWhereKept, SameNumbers};
 ghost use Rattle.ready_work.specs.TaskSets.{LooksAt, MovesTasks};
 
@@ -78,6 +79,30 @@ impl ReadyWork {
         for change in changes {
             self.note(graph, state, change);
         }
+    }
+
+    /// Follows the claim of a queued unit, from the state before it to the one after it. Nothing else in the index has changed, so nothing is
+    /// looked at.
+    #[inline]
+    pub fn follow_claim(&mut self, unit: u32)
+        requires { (g : GraphView) × (before : StateView) × (s : StateView) × (w : WorkerId)
+            × FollowsOn g before w (claimed_unit w unit) s self.old }
+        ensures { (g : GraphView) (before s : StateView) (w : WorkerId)
+            → FollowsOn g before w (claimed_unit w unit) s self.old → IsIndexOf g s self.new }
+    {
+        put_where_kept(&mut self.queued, unit, false);
+    }
+
+    /// Follows the end of a unit that ran, from the state before it to the one after it. Nothing else in the index has changed, so nothing
+    /// is looked at.
+    #[inline]
+    pub fn follow_close(&mut self, unit: u32)
+        requires { (g : GraphView) × (before : StateView) × (s : StateView) × (w : WorkerId) × (to : Mark)
+            × FollowsOn g before w (closed_unit w unit to) s self.old }
+        ensures { (g : GraphView) (before s : StateView) (w : WorkerId) (to : Mark) → has_ended to ≡ true
+            → FollowsOn g before w (closed_unit w unit to) s self.old → IsIndexOf g s self.new }
+    {
+        self.open_units.put(unit, false);
     }
 
     /// The lowest unit from a number on that hasn't ended.

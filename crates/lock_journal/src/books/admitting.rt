@@ -4,7 +4,7 @@ ghost use Rattle.lock_transforms.specs.Allowed.{Allowed, IsKindOf};
 ghost use Rattle.lock_journal.specs.BookView.{SameBook};
 ghost use Rattle.lock_transforms.specs.Entry.{entry};
 
-use crate::books::Book;
+use crate::books::{Book, follow_entry};
 use lock_transforms::Kind;
 use lock_transforms::kinds::is_kind_of;
 use resource_lock::{Change, WorkerId};
@@ -93,8 +93,7 @@ impl Book {
             return false;
         }
         self.history.push_finished(worker, &kind, changes);
-        self.ready
-            .follow(self.tentative.graph(), self.tentative.state(), changes);
+        follow_entry(&mut self.ready, &self.tentative, &kind);
         true
     }
 

@@ -1,8 +1,9 @@
 use Rattle.std.proofs.Common.{◌≡◌, List, [], ◌∷◌, ◌++◌, Some, inl, inr, refl, sym, ◌∙◌, ap, subst, arith}
 use Rattle.resource_lock.specs.GraphView.{GraphView}
 use Rattle.resource_lock.specs.StateView.{StateView}
-use Rattle.ready_work.specs.ReadyWork.{IsIndexOf}
+use Rattle.resource_lock.specs.declared.changes.Change.{Change}
 use Rattle.lock_transforms.specs.Allowed.{Allowed}
+use Rattle.lock_journal.specs.Book.{FollowsEntry}
 use Rattle.lock_journal.specs.BookView.{BookView}
 use Rattle.lock_journal.specs.LastChanges.{last_changes}
 use Rattle.lock_journal.proofs.Given.{sound_forgotten}
@@ -16,8 +17,21 @@ use Rattle.lock_journal.proofs.books.Book.add_where_allowed.Goals as goal
 pub push_finished-requires-clause-own : goal.push_finished-requires-clause-own
 push_finished-requires-clause-own c = own_changes c.self.inside.tentative.state c.args.worker c.args.changes.now (c.if-not-admit.ensures.allowed refl).finished.possible
 
+-- what the index follows
+pub follow_entry-requires : goal.follow_entry-requires
+follow_entry-requires c = (
+  c.self.inside.tentative,
+  c.args.worker,
+  subst (λ (cs : List Change). FollowsEntry c.self.inside.tentative c.admit.new.self (entry c.args.worker c.args.kind (Some cs)) c.self.inside.ready) (sym (c.if-not-admit.ensures.made refl refl)) (record {
+    graph = c.if-not-admit.ensures.graph;
+    state = c.if-not-admit.ensures.state refl refl;
+    allowed = c.if-not-admit.ensures.allowed refl;
+    index = c.self.invariant.index;
+  }),
+)
+
 -- the entry that was admitted
-extended : (c : goal.After-follow) → Extends c.self.inside (record { tentative = c.admit.new.self; history = c.push_finished.new.self; ready = c.follow.new.self }) (entry c.args.worker c.args.kind (Some c.args.changes.now))
+extended : (c : goal.After-follow_entry) → Extends c.self.inside (record { tentative = c.admit.new.self; history = c.push_finished.new.self; ready = c.follow_entry.new.ready }) (entry c.args.worker c.args.kind (Some c.args.changes.now))
 extended c = record {
   noted = inr (c.if-not-admit.ensures.made refl refl ∙ sym (ap last_changes c.push_finished.ensures.entries ∙ last_pushed c.self.inside.history.entries c.args.worker c.args.kind c.args.changes.now));
   room = more_room c.self.invariant.room c.if-not-admit.ensures.graph (omega (arith, c.if-not-admit.ensures.room));
@@ -27,8 +41,7 @@ extended c = record {
   state = c.if-not-admit.ensures.state refl refl;
   allowed = c.if-not-admit.ensures.allowed refl;
   fit = c.push_finished.ensures.fit;
-  index = subst (λ (o : GraphView). IsIndexOf o c.admit.new.self.state c.follow.new.self) c.graph.ensures.value
-      (subst (λ (s : StateView). IsIndexOf c.graph.result.now s c.follow.new.self) c.state.ensures.value c.follow.ensures);
+  index = c.follow_entry.ensures;
 }
 
 -- an entry that was refused leaves no changes

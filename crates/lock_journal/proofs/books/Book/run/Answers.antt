@@ -25,8 +25,22 @@ push_finished-requires-clause-own g c =
     subst (AllByRecursion (IsOwnChange c.args.worker)) (sym c.made.ensures)
     (own_changes c.self.inside.tentative.state c.args.worker c.attempt-disposition.new.self.made (c.attempt-disposition.ensures.allowed c.in-Finished.is).finished.possible)
 
+-- what the index follows
+pub follow_entry-requires : goal.follow_entry-requires
+follow_entry-requires g c = (
+  c.self.inside.tentative,
+  c.args.worker,
+  record {
+    graph = c.attempt-disposition.ensures.graph;
+    state = c.attempt-disposition.ensures.made c.in-Finished.is;
+    allowed = subst (λ (k : Kind). Allowed c.self.inside.tentative.graph c.self.inside.tentative.state (entry c.args.worker k (Some c.attempt-disposition.new.self.made))) (sym c.kind-kind.ensures)
+        (c.attempt-disposition.ensures.allowed c.in-Finished.is);
+    index = c.self.invariant.index;
+  },
+)
+
 -- the entry of a transform that finished
-extended : (g : Over) (c : goal.After-follow g) → Extends c.self.inside (record { tentative = c.attempt-disposition.new.self; history = c.push_finished.new.self; ready = c.follow.new.self })
+extended : (g : Over) (c : goal.After-follow_entry g) → Extends c.self.inside (record { tentative = c.attempt-disposition.new.self; history = c.push_finished.new.self; ready = c.follow_entry.new.ready })
     (entry c.args.worker (g.T.Transform.kind_of c.args.transform.now) (Some c.attempt-disposition.new.self.made))
 extended g c =
     let w = c.args.worker in
@@ -34,7 +48,7 @@ extended g c =
     let made : List Change = c.attempt-disposition.new.self.made in
     let entries : c.push_finished.new.self.entries ≡ c.self.inside.history.entries ++ entry w kind (Some made) ∷ [] =
     c.push_finished.ensures.entries
-    ∙ ap (λ (k : Kind). c.self.inside.history.entries ++ entry w k (Some c.made.result.now) ∷ []) c.kind.ensures
+    ∙ ap (λ (k : Kind). c.self.inside.history.entries ++ entry w k (Some c.made.result.now) ∷ []) c.kind-kind.ensures
     ∙ ap (λ (cs : List Change). c.self.inside.history.entries ++ entry w kind (Some cs) ∷ []) c.made.ensures in
     record {
       noted = inr (sym (ap last_changes entries ∙ last_pushed c.self.inside.history.entries w kind made));
@@ -44,9 +58,8 @@ extended g c =
       entries = entries;
       state = c.attempt-disposition.ensures.made c.in-Finished.is;
       allowed = c.attempt-disposition.ensures.allowed c.in-Finished.is;
-      fit = subst IsFitKind c.kind.ensures c.push_finished.ensures.fit;
-      index = subst (λ (o : GraphView). IsIndexOf o c.attempt-disposition.new.self.state c.follow.new.self) c.graph-in-Finished.ensures.value
-          (subst (λ (s : StateView). IsIndexOf c.graph-in-Finished.result.now s c.follow.new.self) c.state-in-Finished.ensures.value c.follow.ensures);
+      fit = subst IsFitKind c.kind-kind.ensures c.push_finished.ensures.fit;
+      index = c.follow_entry.ensures;
     }
 
 pub invariant_of-self : goal.invariant_of-self
@@ -69,10 +82,10 @@ invariant_of-self-in-Failed g c =
       graph = c.attempt-disposition.ensures.graph;
       units = c.push_failed.ensures.units;
       entries = c.push_failed.ensures.entries
-          ∙ ap (λ (k : Kind). c.self.inside.history.entries ++ entry c.args.worker k None ∷ []) c.kind-in-Failed.ensures;
+          ∙ ap (λ (k : Kind). c.self.inside.history.entries ++ entry c.args.worker k None ∷ []) c.kind.ensures;
       state = c.attempt-disposition.ensures.undone unfinished;
       allowed = record { worker = omega (arith, c.requires, ap (λ (o : GraphView). o.workers) graph); kind = c.attempt-disposition.ensures.kind c.in-Failed.is; finished = tt };
-      fit = subst IsFitKind c.kind-in-Failed.ensures c.push_failed.ensures.fit;
+      fit = subst IsFitKind c.kind.ensures c.push_failed.ensures.fit;
       index = subst (λ (o : GraphView). IsIndexOf o c.attempt-disposition.new.self.state c.self.inside.ready) (sym c.attempt-disposition.ensures.graph)
           (subst (λ (s : StateView). IsIndexOf c.self.inside.tentative.graph s c.self.inside.ready) (sym (c.attempt-disposition.ensures.undone unfinished)) c.self.invariant.index);
     } in
