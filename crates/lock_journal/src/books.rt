@@ -274,13 +274,44 @@ impl Book {
         ensures changes { OnOk result (changes ≤ self.new.spare_changes) }
         ensures full { OnErr result ((self.old.spare_entries < entries) ⊎ (self.old.spare_changes < changes)) }
     {
+        if self.surely_has_room(entries, changes) {
+            return Ok(());
+        }
+        self.look_for_room(entries, changes)
+    }
+
+    // Whether it is known that there is room for so many more entries and changes. Most runs test no more than this.
+    #[inline(always)]
+    fn surely_has_room(&self, entries: u64, changes: u64) -> bool
+        ensures entries { result ≡ true → entries ≤ self.now.spare_entries }
+        ensures changes { result ≡ true → changes ≤ self.now.spare_changes }
+    {
+        changes <= self.tentative.capacity() && self.history.surely_has_room(entries, changes)
+    }
+
+    // `reserve`, where that isn't known. Where there is room, it is known then.
+    #[inline(never)]
+    fn look_for_room(&mut self, entries: u64, changes: u64) -> Result<(), AllocError>
+        ensures same { SameBook self.old self.new }
+        ensures entries { OnOk result (entries ≤ self.new.spare_entries) }
+        ensures changes { OnOk result (changes ≤ self.new.spare_changes) }
+        ensures full { OnErr result ((self.old.spare_entries < entries) ⊎ (self.old.spare_changes < changes)) }
+    {
         if entries <= self.spare_entries() && changes <= self.spare_changes() {
+            self.note_room();
             return Ok(());
         }
         self.grow(entries, changes)
     }
 
-    // The same, also where there is room for them. The changes noted are forgotten.
+    // Looks at how much room there is, so that it is known.
+    fn note_room(&mut self)
+        ensures { self.new ≡ self.old }
+    {
+        self.history.note_room();
+    }
+
+    // `reserve`, also where there is room for them. The changes noted are forgotten.
     #[inline(never)]
     fn grow(&mut self, entries: u64, changes: u64) -> Result<(), AllocError>
         ensures same { SameBook self.old self.new }

@@ -1,5 +1,5 @@
 //! The history of a book.
-ghost use Rattle.std.specs.Prelude.{◌≡◌, ◌<◌, ◌≤◌, ◌+◌, ◌-◌, ◌⊎◌, ◌∷◌, ◌++◌, [], length, take, IsTrue};
+ghost use Rattle.std.specs.Prelude.{◌≡◌, ◌<◌, ◌≤◌, ◌+◌, ◌-◌, ◌⊎◌, ◌∷◌, ◌++◌, [], length, take, true, IsTrue};
 ghost use Rattle.std.specs.Prelude.{Some, None, OnOk, OnErr, IfOk, IfSome, slice_get};
 ghost use Rattle.std.specs.List.{AllByRecursion};
 ghost use Rattle.lock_journal.specs.Bounds.{IsFitKind};
@@ -28,17 +28,21 @@ use std::mem::swap;
 pub(crate) struct History {
     past: Past,
     kept: Segment,
+    // How many more entries and changes there is surely room for: what the last look found (`note_room`), less what was added since.
+    sure_entries: u64,
+    sure_changes: u64,
 }
 
 impl Model for History {
-    ghost use Rattle.std.specs.Prelude.{◌≡◌, ◌++◌, length};
+    ghost use Rattle.std.specs.Prelude.{◌≡◌, ◌≤◌, ◌++◌, length};
     ghost use Rattle.lock_journal.specs.HistoryView.{HistoryView, history_of};
 
     ghost Value = { HistoryView };
 
     ghost view = { λ h. history_of h.past h.kept };
 
-    ghost invariant = { λ h. h.kept.before ≡ length h.past };
+    ghost invariant = { λ h. (h.kept.before ≡ length h.past) × (h.sure_entries ≤ h.kept.spare_entries)
+        × (h.sure_changes ≤ h.kept.spare_changes) };
 }
 
 impl History {
@@ -59,6 +63,8 @@ impl History {
         Ok(History {
             past: Past::none(),
             kept,
+            sure_entries: 0,
+            sure_changes: 0,
         })
     }
 
@@ -90,6 +96,23 @@ impl History {
         ensures { result ≡ self.now.spare_changes }
     {
         self.kept.spare_changes()
+    }
+
+    /// Whether it is known that there is room for so many more entries and changes. False says nothing.
+    #[inline(always)]
+    pub(crate) fn surely_has_room(&self, entries: u64, changes: u64) -> bool
+        ensures entries { result ≡ true → entries ≤ self.now.spare_entries }
+        ensures changes { result ≡ true → changes ≤ self.now.spare_changes }
+    {
+        entries <= self.sure_entries && changes <= self.sure_changes
+    }
+
+    /// Looks at how much room there is, so that it is known.
+    pub(crate) fn note_room(&mut self)
+        ensures { self.new ≡ self.old }
+    {
+        self.sure_entries = self.kept.spare_entries();
+        self.sure_changes = self.kept.spare_changes();
     }
 
     /// Makes room for so many more entries and changes.
@@ -144,6 +167,8 @@ impl History {
         ensures fit { IsFitKind kind.now }
     {
         self.kept.push_finished(worker, kind, changes);
+        self.sure_entries = self.sure_entries.saturating_sub(1);
+        self.sure_changes = self.sure_changes.saturating_sub(changes.len() as u64);
     }
 
     /// Adds a failed entry.
@@ -157,6 +182,7 @@ impl History {
         ensures fit { IsFitKind kind.now }
     {
         self.kept.push_failed(worker, kind);
+        self.sure_entries = self.sure_entries.saturating_sub(1);
     }
 
     /// Removes the last entry, which wasn't given away.
@@ -182,5 +208,7 @@ impl History {
         segment.begin_behind(self.kept.end());
         swap(&mut self.kept, segment);
         self.past = whole;
+        self.sure_entries = 0;
+        self.sure_changes = 0;
     }
 }

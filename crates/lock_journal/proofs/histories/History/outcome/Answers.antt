@@ -9,5 +9,5 @@ pub returns : goal.returns
 returns c =
     c.outcome.ensures
     ∙ ap (λ (es : List Entry). outcome_in es c.args.unit)
-    (all_kept c.self.inside.past c.self.inside.kept.entries c.self.inside.kept.before c.self.invariant (ap (λ (h : HistoryView). h.given) c.self.view_is ∙ c.requires.whole))
+    (all_kept c.self.inside.past c.self.inside.kept.entries c.self.inside.kept.before c.self.invariant.0 (ap (λ (h : HistoryView). h.given) c.self.view_is ∙ c.requires.whole))
     ∙ ap (λ (h : HistoryView). outcome_in h.entries c.args.unit) c.self.view_is

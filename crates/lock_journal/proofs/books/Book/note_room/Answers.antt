@@ -1,0 +1,9 @@
+use Rattle.std.proofs.Common.{sym, subst}
+use Rattle.lock_journal.specs.Book.{IsSound}
+use Rattle.lock_journal.specs.HistoryView.{HistoryView}
+use Rattle.lock_journal.proofs.books.Book.note_room.Goals as goal
+
+-- the history is the same to contracts
+pub invariant_of-self : goal.invariant_of-self
+invariant_of-self c =
+    subst (λ (h : HistoryView). IsSound (record { tentative = c.self.inside.tentative; history = h; ready = c.self.inside.ready })) (sym c.note_room.ensures) c.self.invariant
