@@ -90,7 +90,7 @@ impl WorkerPart {
     }
 
     /// Follows the book, on which a transform of the kind was run for the worker, with what came of that. It takes no memory.
-    #[inline]
+    #[inline(always)]
     pub fn follow(
         &mut self,
         worker: WorkerId,
@@ -125,6 +125,7 @@ impl WorkerPart {
     }
 
     // Notes changes of the worker in order.
+    #[inline(never)]
     fn note_all(&mut self, worker: WorkerId, changes: Changes<'_>)
         requires { (s : StateView) × LeadsOn s worker self.old (changes_left changes) }
         ensures leads { (s : StateView) → LeadsOn s worker self.old (changes_left changes.entry)

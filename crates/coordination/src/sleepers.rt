@@ -126,7 +126,7 @@ impl Sleepers {
 
     /// Ends a hold that left this book: its worker takes this stance, and who is woken looks. Where the hold made an entry, that wakes
     /// questions and transforms too.
-    #[inline]
+    #[inline(always)]
     pub(crate) fn end_hold(
         &mut self,
         book: &Book,
@@ -150,7 +150,7 @@ impl Sleepers {
     }
 
     /// Ends the hold in which a transform of this kind was run.
-    #[inline]
+    #[inline(always)]
     pub(crate) fn end_transform(
         &mut self,
         book: &Book,
