@@ -1,7 +1,7 @@
 -- Who sleeps, who looks, and what is so of both after somebody was woken.
-use Rattle.std.proofs.Common.{◌≡◌, ◌<◌, inl, inr, ℕ, Bool, List, Some, refl, ap, arith}
+use Rattle.std.proofs.Common.{◌≡◌, ◌<◌, inl, inr, ℕ, Bool, List, Some, refl, sym, ap, ◌∙◌, arith}
 use Rattle.std.specs.Prelude.{length, replicate, set, slice_get}
-use Rattle.std.proofs.lemmas.List.{get_or-replicate, length-replicate}
+use Rattle.std.proofs.lemmas.List.{get_or-replicate, length-replicate, set-get_or}
 use Rattle.std.proofs.lemmas.Option.{get_or_from_slice_get, slice_get_within}
 use Rattle.resource_lock.proofs.lemmas.Lists.{count_by-set, one_if}
 use Rattle.lock_journal.specs.BookView.{BookView}
@@ -17,6 +17,10 @@ use Rattle.coordination.specs.SleepAndWake.{AreQuiet, IsWokenBy, stances_after}
 pub none_there : (xs : List Stance) (i : ℕ) (a : Awaited) → asleep xs ≡ 0 → slice_get xs i ≡ Some (Sleeps a) → ⊥
 none_there xs i a none at =
     omega (arith, none, count_by-set sleeps xs i Away Away (slice_get_within xs i (Sleeps a) at), ap (λ s. one_if (sleeps s)) (get_or_from_slice_get xs i (Sleeps a) Away at))
+
+-- who was away and stays so changes nothing
+pub stays : (xs : List Stance) (i : ℕ) (s : Stance) → s ≡ Away → slice_get xs i ≡ Some Away → set xs i s ≡ xs
+stays xs i s is at = ap (λ (t : Stance). set xs i t) (is ∙ sym (get_or_from_slice_get xs i Away Away at)) ∙ set-get_or xs i Away
 
 -- where nobody sleeps nobody is woken
 pub nobody_woken : (book : BookView) (queued : Bool) (xs : List Stance) → asleep xs ≡ 0 → IsWokenBy book queued xs woken.Nobody

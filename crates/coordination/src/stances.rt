@@ -1,5 +1,5 @@
 //! The stances of the workers, with those counted that look and those that sleep.
-ghost use Rattle.std.specs.Prelude.{◌≡◌, IfOk, false, length, replicate, set};
+ghost use Rattle.std.specs.Prelude.{◌≡◌, IfOk, Some, false, length, replicate, set, slice_get, true};
 ghost use Rattle.worker_choices.specs.Stances.{asleep, looking};
 ghost use Rattle.worker_choices.specs.declared.stances.Stance.TheVariants as stance;
 ghost use Rattle.coordination.specs.Offered.{is_queued_in};
@@ -47,7 +47,28 @@ impl Stances {
     }
 
     /// Notes a worker's stance. A number of no worker changes nothing.
+    #[inline]
     pub fn note(&mut self, worker: WorkerId, stance: Stance)
+        ensures { self.new ≡ set self.old worker.0 stance }
+    {
+        match stance {
+            // Most holds leave their worker away, as it was.
+            Stance::Away if self.is_away(worker) => {}
+            _ => self.change(worker, stance),
+        }
+    }
+
+    // Whether a worker is away.
+    #[inline(always)]
+    fn is_away(&self, worker: WorkerId) -> bool
+        ensures { result ≡ true → slice_get self.now worker.0 ≡ Some stance.Away }
+    {
+        matches!(self.stances.get(worker.0 as usize), Some(Stance::Away))
+    }
+
+    // Notes a stance that the worker may not have had.
+    #[inline]
+    fn change(&mut self, worker: WorkerId, stance: Stance)
         ensures { self.new ≡ set self.old worker.0 stance }
     {
         let place = worker.0 as usize;
@@ -68,27 +89,37 @@ impl Stances {
     }
 
     /// Ends a hold that left this book, where items wait so: its worker takes this stance, and who is woken looks.
-    #[inline]
+    #[inline(always)]
     pub fn settle(&mut self, book: &Book, queued: Queued, worker: WorkerId, stance: Stance) -> Woken
         ensures woken { IsWokenBy book.now (is_queued_in queued book.now) (set self.old worker.0 stance) result }
         ensures stances { self.new ≡ stances_after result (set self.old worker.0 stance) }
         ensures quiet { AreQuiet book.now (is_queued_in queued book.now) self.new }
     {
         self.note(worker, stance);
+        // Mostly nobody sleeps.
+        if !self.some_sleep() {
+            return Woken::Nobody;
+        }
+        self.wake_for(book, queued)
+    }
+
+    // Wakes who is to be woken at the end of a hold that left this book, where items wait so. Who is woken looks.
+    #[inline(never)]
+    fn wake_for(&mut self, book: &Book, queued: Queued) -> Woken
+        ensures woken { IsWokenBy book.now (is_queued_in queued book.now) self.old result }
+        ensures stances { self.new ≡ stances_after result self.old }
+        ensures quiet { AreQuiet book.now (is_queued_in queued book.now) self.new }
+    {
         let woken = self.whom_to_wake(book, queued);
         self.note_woken(woken);
         woken
     }
 
-    // Whom of them the end of a hold wakes, where items wait so. It looks for one, and where items wait, only where some
-    // worker sleeps and nobody looks.
+    // Whom of them the end of a hold wakes, where items wait so. It looks for one, and where items wait, only where nobody looks.
     #[inline]
     fn whom_to_wake(&self, book: &Book, queued: Queued) -> Woken
         ensures { IsWokenBy book.now (is_queued_in queued book.now) self.now result }
     {
-        if self.sleepers == 0 {
-            return Woken::Nobody;
-        }
         if self.lookers > 0 {
             return if all_ended(book) {
                 Woken::All

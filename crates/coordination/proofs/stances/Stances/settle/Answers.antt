@@ -1,11 +1,17 @@
-use Rattle.std.proofs.Common.{List, subst, sym}
+use Rattle.std.proofs.Common.{List, refl, subst}
 use Rattle.worker_choices.specs.declared.stances.Stance.{Stance}
+use Rattle.worker_choices.specs.declared.woken.Woken.TheVariants as woken
 use Rattle.coordination.specs.Offered.{is_queued_in}
-use Rattle.coordination.specs.SleepAndWake.{AreQuiet}
-use Rattle.coordination.proofs.Sleeping.{quiet_after}
+use Rattle.coordination.specs.SleepAndWake.{IsWokenBy}
+use Rattle.coordination.proofs.Sleeping.{nobody_woken}
 use Rattle.coordination.proofs.stances.Stances.settle.Goals as goal
 
-pub returns-clause-quiet : goal.returns-clause-quiet
-returns-clause-quiet c =
-    subst (λ (xs : List Stance). AreQuiet c.args.book.now (is_queued_in c.args.queued c.args.book.now) xs) (sym c.note_woken.ensures)
-    (quiet_after c.args.book.now (is_queued_in c.args.queued c.args.book.now) c.note.new.self c.whom_to_wake-woken.result c.whom_to_wake-woken.ensures)
+pub returns-then-not-some_sleep-clause-woken : goal.returns-then-not-some_sleep-clause-woken
+returns-then-not-some_sleep-clause-woken c =
+    let queued = is_queued_in c.args.queued c.args.book.now in
+    subst (λ (xs : List Stance). IsWokenBy c.args.book.now queued xs woken.Nobody) c.note.ensures
+    (nobody_woken c.args.book.now queued c.note.new.self (c.some_sleep.ensures c.if-not-some_sleep.true))
+
+pub returns-then-not-some_sleep-clause-quiet : goal.returns-then-not-some_sleep-clause-quiet
+returns-then-not-some_sleep-clause-quiet c =
+    (nobody_woken c.args.book.now (is_queued_in c.args.queued c.args.book.now) c.note.new.self (c.some_sleep.ensures c.if-not-some_sleep.true)).nobody refl
