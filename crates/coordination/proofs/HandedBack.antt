@@ -2,24 +2,20 @@
 use Rattle.std.proofs.Common.{◌≡◌, ◌≤◌, ℕ, Bool, true, false, cond, List, [], ◌∷◌, ◌++◌, length, map, Ok, refl, sym, ap, ◌∙◌, subst, arith}
 use Rattle.std.specs.Prelude.{vec_capacity}
 use Rattle.std.proofs.lemmas.Bool.{le-ltb}
-use Rattle.resource_lock.specs.Change.{holding_after, make_all}
-use Rattle.resource_lock.specs.StateView.{Holding, StateView, holding_of}
+use Rattle.resource_lock.specs.Change.{holding_after}
+use Rattle.resource_lock.specs.StateView.{Holding, holding_of}
 use Rattle.resource_lock.specs.declared.changes.Change.{Change}
 use Rattle.resource_lock.specs.declared.changes.Change.TheVariants.{Unlock, Give}
 use Rattle.resource_lock.specs.declared.ids.LockId.{LockId}
 use Rattle.resource_lock.specs.declared.ids.WorkerId.{WorkerId}
 use Rattle.resource_lock.specs.declared.marks.MarkId.{MarkId}
-use Rattle.resource_lock.proofs.lemmas.Runs.{worker_from}
-use Rattle.lock_transforms.specs.Table.{owned}
 use Rattle.lock_transforms.specs.declared.entries.Kind.TheVariants.{HandBack}
 use Rattle.lock_transforms.specs.declared.transforms.Disposition.TheVariants.{Finished}
 use Rattle.lock_journal.specs.BookView.{BookView}
-use Rattle.lock_journal.specs.Own.{claimed}
 use Rattle.lock_journal.specs.OwnChanges.{after_all, claimed_after, lock_before, locks_after, without_member}
-use Rattle.lock_journal.proofs.lemmas.OwnChanges.{own_claimed_all, own_holding_all, own_locks_all}
-use Rattle.coordination.specs.Parts.{Follows, Has, HasHandedBack, HasRoom, IsPartOf}
+use Rattle.coordination.specs.Parts.{Follows, HasHandedBack, HasRoom, IsPartOf, holding_in}
 use Rattle.coordination.specs.declared.parts.WorkerPart.{WorkerPart}
-use Rattle.coordination.proofs.lemmas.Entries.{belongs_sound, part_of_all}
+use Rattle.coordination.proofs.lemmas.Entries.{part_by_changes}
 
 -- its changes, by the locks and whether there is a lease
 abbrev all_given : List LockId → Bool → List Change
@@ -46,27 +42,14 @@ marks_stay w ms [] true = refl
 marks_stay w ms [] false = refl
 marks_stay w ms (l ∷ ls) leased = marks_stay w ms ls leased
 
-module _ {E : Type 0} (w : WorkerId) (old new : BookView) (part after : WorkerPart) (n : ℕ) (f : Follows {E = E} w HandBack old new (Ok Finished) part) (h : HasHandedBack (record part { last = n }) after) where
-  has_after : Has (make_all old.state w f.grew.0) w after
-  has_after =
-      let s : StateView = old.state in
-      let cs : List Change = f.grew.0 in
-      let finishes = f.grew.1.allowed.finished in
-      let here = worker_from old.graph s w (belongs_sound old f.sound) f.grew.1.allowed.worker in
-      let ls : List LockId = owned s w in
-      let leased : Bool = (holding_of s w).lease in
-      let is : cs ≡ all_given ls leased = finishes.list in record {
-        holding = h.holding
-            ∙ (ap (λ (x : Holding). record x { lease = false }) f.kept.has.holding
-            ∙ sym (own_holding_all s w cs here ∙ (ap (λ (ds : List Change). after_all holding_after (holding_of s w) ds) is ∙ lease_gone (holding_of s w) ls)));
-        locks = h.locks ∙ sym (own_locks_all s w cs finishes.named finishes.possible ∙ (ap (λ (ds : List Change). after_all locks_after ls ds) is ∙ locks_gone ls leased));
-        claimed = ap (λ v. v.items) h.claimed
-            ∙ (f.kept.has.claimed
-            ∙ sym (own_claimed_all s w cs finishes.named finishes.possible ∙ (ap (λ (ds : List Change). after_all (claimed_after w) (claimed s w) ds) is ∙ marks_stay w (claimed s w) ls leased)));
-      }
-
+module _ {E : Type 0} {w : WorkerId} {old new : BookView} {part : WorkerPart} (f : Follows {E = E} w HandBack old new (Ok Finished) part) (n : ℕ) (after : WorkerPart) (h : HasHandedBack (record part { last = n }) after) where
   pub part_handed_back : n ≡ length new.history → IsPartOf new w after
-  part_handed_back long = part_of_all w HandBack old new part f after n has_after h.last long
+  part_handed_back last =
+      let ls : List LockId = part.locks.items in
+      let made : f.grew.0 ≡ all_given ls part.lease = f.grew.1.allowed.finished.list
+      ∙ (ap (λ (ks : List LockId). all_given ks (holding_of old.state w).lease) (sym f.kept.has.locks) ∙ ap (λ (x : Holding). all_given ls x.lease) (sym f.kept.has.holding)) in
+      part_by_changes f (all_given ls part.lease) made after (lease_gone (holding_in part) ls ∙ sym h.holding) (locks_gone ls part.lease ∙ sym h.locks)
+      (marks_stay w part.claimed.items ls part.lease ∙ ap (λ v. v.items) (sym h.claimed)) (h.last ∙ last)
 
   pub room_handed_back : HasRoom after
   room_handed_back =

@@ -15,6 +15,7 @@ pub mod SortedLists
 pub mod Rising
 pub mod Following
 pub mod HandedBack
+pub mod ItemEntries
 pub mod AtRest
 pub mod Totals
 pub mod Together

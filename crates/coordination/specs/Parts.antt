@@ -1,5 +1,5 @@
 -- What a pass keeps of a book for its worker, and how it follows the worker's entries.
-use Rattle.std.specs.Prelude.{◌≡◌, ◌+◌, ◌-◌, ◌<◌, ◌≤◌, ℕ, suc, true, false, List, [], ◌∷◌, ◌++◌, length, vec_capacity}
+use Rattle.std.specs.Prelude.{◌≡◌, ◌+◌, ◌-◌, ◌<◌, ◌≤◌, ℕ, suc, Bool, true, false, List, [], ◌∷◌, ◌++◌, length, vec_capacity}
 use Rattle.std.specs.Prelude.{vec_len, Result, Ok, Err, None}
 use Rattle.std.specs.List.{AllByRecursion}
 use Rattle.resource_lock.specs.Change.{can_all, holding_after, make_all, NamesOnly}
@@ -8,6 +8,7 @@ use Rattle.resource_lock.specs.StateView.{Holding, IsWorkerOf, StateView, holdin
 use Rattle.resource_lock.specs.declared.changes.Change.{Change}
 use Rattle.resource_lock.specs.declared.changes.Change.TheVariants.{Lock, Move, Park}
 use Rattle.resource_lock.specs.declared.ids.WorkerId.{WorkerId}
+use Rattle.resource_lock.specs.declared.marks.MarkId.{MarkId}
 use Rattle.lock_transforms.specs.Entry.{entry}
 use Rattle.lock_journal.specs.BookView.{BookView}
 use Rattle.lock_journal.specs.LastChanges.{last_changes}
@@ -120,6 +121,15 @@ pub record HasHandedBack (old new : WorkerPart) : Type 0 where
   pub locks : new.locks.items ≡ []
   pub lock_room : vec_capacity new.locks ≡ vec_capacity old.locks
   pub claimed : new.claimed ≡ old.claimed
+  pub parked : new.parked ≡ old.parked
+
+-- the part of a worker that runs these marks now and has a lease or none, with the locks that it had
+pub record HasMarks (lease : Bool) (marks : List MarkId) (old new : WorkerPart) : Type 0 where
+  pub last : new.last ≡ old.last
+  pub holding : holding_in new ≡ record (holding_in old) { lease = lease }
+  pub claimed : new.claimed.items ≡ marks
+  pub mark_room : vec_capacity new.claimed ≡ vec_capacity old.claimed
+  pub locks : new.locks ≡ old.locks
   pub parked : new.parked ≡ old.parked
 
 -- The part is that of the worker in a good state, in which it can make these changes in turn. No state on the way has more of its marks and of its locks

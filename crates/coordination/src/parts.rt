@@ -1,12 +1,13 @@
 //! What a pass keeps of the book for its worker.
-ghost use Rattle.std.specs.Prelude.{◌≡◌, ◌<◌, [], IfOk, OnOk, false, length, true, vec_capacity};
+ghost use Rattle.std.specs.Prelude.{◌≡◌, ◌<◌, [], IfOk, OnOk, false, length, true, vec_capacity, vec_len};
+ghost use Rattle.resource_lock.specs.declared.marks.MarkId.TheVariants as ids;
 ghost use Rattle.resource_lock.specs.Change.{make_all};
 ghost use Rattle.resource_lock.specs.StateView.{StateView, runs_by};
 ghost use Rattle.lock_journal.specs.BookView.{BookView};
 ghost use Rattle.lock_journal.specs.Changes.{changes_left};
-ghost use Rattle.lock_journal.specs.OwnChanges.{mark_before, with_if, without_if};
+ghost use Rattle.lock_journal.specs.OwnChanges.{mark_before, with_if, with_member, without_if, without_member};
 ghost use Rattle.coordination.specs.SortedLists.{IsRising};
-ghost use Rattle.coordination.specs.Parts.{Follows, HasLockRoom, HasHandedBack, HasRoom, HasRoomFor, IsAfter, IsFreshPart, IsPartOf, IsSamePart, LeadsOn, StandsInOrder};
+ghost use Rattle.coordination.specs.Parts.{Follows, HasLockRoom, HasHandedBack, HasMarks, HasRoom, HasRoomFor, IsAfter, IsFreshPart, IsPartOf, IsSamePart, LeadsOn, StandsInOrder};
 
 use crate::sorted_lists::{add, remove};
 use history_views::Reach;
@@ -107,6 +108,10 @@ impl WorkerPart {
                 self.last = book.len();
                 match kind {
                     Kind::HandBack => self.note_hand_back(),
+                    Kind::Claim(unit) => self.note_claim(unit),
+                    Kind::Close(closed) => self.note_close(closed.unit),
+                    // What it queues ran by no worker, and runs by none then.
+                    Kind::Submit(_) => {}
                     _ => self.note_all(worker, book.last_changes()),
                 }
             }
@@ -122,6 +127,27 @@ impl WorkerPart {
     {
         self.locks.clear();
         self.lease = false;
+    }
+
+    // Notes that the worker has taken a lease and runs a unit.
+    #[inline]
+    fn note_claim(&mut self, unit: u32)
+        requires rises { IsRising mark_before self.old.claimed.items }
+        requires room { vec_len self.old.claimed < vec_capacity self.old.claimed }
+        ensures { HasMarks true (with_member mark_before (ids.Unit unit) self.old.claimed.items) self.old self.new }
+    {
+        self.lease = true;
+        add(&mut self.claimed, MarkId::Unit(unit));
+    }
+
+    // Notes that the worker has given its lease back and runs a unit no more.
+    #[inline]
+    fn note_close(&mut self, unit: u32)
+        requires { IsRising mark_before self.old.claimed.items }
+        ensures { HasMarks false (without_member mark_before (ids.Unit unit) self.old.claimed.items) self.old self.new }
+    {
+        self.lease = false;
+        remove(&mut self.claimed, MarkId::Unit(unit));
     }
 
     // Notes changes of the worker in order.

@@ -3,25 +3,28 @@ use Rattle.std.proofs.Common.{◌≡◌, ℕ, ◌-◌, ◌<◌, List, [], ◌∷
 use Rattle.std.specs.Prelude.{slice_get, vec_capacity}
 use Rattle.std.proofs.Math.Seq.{get_or-append_seam}
 use Rattle.std.proofs.lemmas.Option.{slice_get-get_or}
-use Rattle.resource_lock.specs.Change.{make_all}
+use Rattle.resource_lock.specs.Change.{holding_after, make_all}
 use Rattle.resource_lock.specs.declared.changes.Change.{Change}
 use Rattle.resource_lock.specs.Good.{Good}
 use Rattle.resource_lock.specs.Shape.{BelongsTo}
 use Rattle.resource_lock.specs.StateView.{Holding, StateView}
 use Rattle.resource_lock.specs.declared.ids.LockId.{LockId}
 use Rattle.resource_lock.specs.declared.ids.WorkerId.{WorkerId}
+use Rattle.resource_lock.specs.declared.marks.MarkId.{MarkId}
 use Rattle.resource_lock.proofs.lemmas.Runs.{worker_from}
 use Rattle.lock_transforms.specs.Entry.{Entry, entry}
 use Rattle.lock_transforms.specs.MostChanges.{locks_gained}
 use Rattle.lock_transforms.specs.declared.entries.Kind.{Kind}
 use Rattle.lock_journal.specs.BookView.{BookView}
 use Rattle.lock_journal.specs.LastChanges.{last_changes, made_by}
+use Rattle.lock_journal.specs.OwnChanges.{after_all, claimed_after, locks_after}
 use Rattle.lock_transforms.specs.declared.transforms.Disposition.{Disposition}
 use Rattle.lock_transforms.specs.declared.transforms.Disposition.TheVariants.{Finished, Failed}
 use Rattle.lock_journal.proofs.lemmas.Named.{belongs, good}
+use Rattle.lock_journal.proofs.lemmas.OwnChanges.{own_claimed_all, own_holding_all, own_locks_all}
 use Rattle.coordination.specs.Agrees.{IsSoundBook}
 use Rattle.coordination.specs.WorkerEntries.{last_of}
-use Rattle.coordination.specs.Parts.{Follows, Has, IsPartOf, LeadsOn, lock_count, lock_total}
+use Rattle.coordination.specs.Parts.{Follows, Has, IsPartOf, LeadsOn, holding_in, lock_count, lock_total}
 use Rattle.coordination.specs.declared.parts.WorkerPart.{WorkerPart}
 use Rattle.coordination.proofs.lemmas.FewMarks.{Keeps, keeps}
 use Rattle.coordination.proofs.lemmas.Growing.{last_of-own}
@@ -31,6 +34,10 @@ use Rattle.coordination.proofs.lemmas.OnTheWay.{few_on_the_way}
 -- at a result that is known by an equation
 pub follows_at : {E : Type 0} (w : WorkerId) (kind : Kind) (old new : BookView) (r s : Result Disposition E) (part : WorkerPart) → r ≡ s → Follows w kind old new r part → Follows w kind old new s part
 follows_at w kind old new r s part is f = subst (λ t. Follows w kind old new t part) is f
+
+-- of a transform of a known kind that finished
+pub finished_as : {E : Type 0} {w : WorkerId} {kind known : Kind} {old new : BookView} {r : Result Disposition E} {part : WorkerPart} → Follows w kind old new r part → r ≡ Ok Finished → kind ≡ known → Follows {E = E} w known old new (Ok Finished) part
+finished_as {E} {w} {kind} {known} {old} {new} {r} {part} f is at = subst (λ (k : Kind). Follows {E = E} w k old new (Ok Finished) part) at (follows_at w kind old new r (Ok Finished) part is f)
 
 pub belongs_sound : (book : BookView) → IsSoundBook book → BelongsTo book.graph book.state
 belongs_sound book sound = subst (BelongsTo book.graph) (sym sound.replays) (belongs book.graph book.history sound.lawful)
@@ -92,6 +99,23 @@ module _ {E : Type 0} (w : WorkerId) (kind : Kind) (old new : BookView) (part : 
         has = subst (λ (s : StateView). Has s w after) (sym f.grew.1.state) has;
         last = last ∙ (long ∙ (ap (λ (h : List Entry). length h) history ∙ sym (ap (λ (h : List Entry). last_of w h) history ∙ last_of-own w old.history e refl)));
       }
+
+-- the part behind an entry, by what its changes leave of the part before it
+pub part_by_changes : {E : Type 0} {w : WorkerId} {kind : Kind} {old new : BookView} {part : WorkerPart} (f : Follows {E = E} w kind old new (Ok Finished) part) (cs : List Change) → f.grew.0 ≡ cs → (after : WorkerPart)
+    → after_all holding_after (holding_in part) cs ≡ holding_in after → after_all locks_after part.locks.items cs ≡ after.locks.items → after_all (claimed_after w) part.claimed.items cs ≡ after.claimed.items
+    → after.last ≡ length new.history → IsPartOf new w after
+part_by_changes {E} {w} {kind} {old} {new} {part} f cs made after holding locks marks last =
+    let s : StateView = old.state in
+    let here = worker_from old.graph s w (belongs_sound old f.sound) f.grew.1.allowed.worker in
+    let finishes = f.grew.1.allowed.finished in
+    let has : Has (make_all s w f.grew.0) w after = record {
+      holding = sym (own_holding_all s w f.grew.0 here ∙ (ap (λ (h : Holding). after_all holding_after h f.grew.0) (sym f.kept.has.holding) ∙ (ap (λ (ds : List Change). after_all holding_after (holding_in part) ds) made ∙ holding)));
+      locks = sym (own_locks_all s w f.grew.0 finishes.named finishes.possible
+          ∙ (ap (λ (ls : List LockId). after_all locks_after ls f.grew.0) (sym f.kept.has.locks) ∙ (ap (λ (ds : List Change). after_all locks_after part.locks.items ds) made ∙ locks)));
+      claimed = sym (own_claimed_all s w f.grew.0 finishes.named finishes.possible
+          ∙ (ap (λ (ms : List MarkId). after_all (claimed_after w) ms f.grew.0) (sym f.kept.has.claimed) ∙ (ap (λ (ds : List Change). after_all (claimed_after w) part.claimed.items ds) made ∙ marks)));
+    } in
+    part_of_all w kind old new part f after after.last has refl last
 
 -- a failed transform leaves all but the number of the last entry
 pub part_failed : {E : Type 0} (w : WorkerId) (kind : Kind) (old new : BookView) (part : WorkerPart) (n : ℕ) → Follows {E = E} w kind old new (Ok Failed) part → n ≡ length new.history → IsPartOf new w (record part { last = n })

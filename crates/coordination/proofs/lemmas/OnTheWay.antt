@@ -34,11 +34,12 @@ FromOthers w m from to = runs_by w from ≡ false
 abbrev ToOthers : WorkerId → MarkId → Mark → Mark → Type 0
 ToOthers w m from to = runs_by w to ≡ false
 
-given : (w : WorkerId) (o : Outcome) → runs_by w (mark_from o) ≡ false
-given w (outcomes.Number n) = refl
-given w (outcomes.Digest d) = refl
-given w outcomes.NotThere = refl
-given w _ = refl
+-- what has ended runs no more
+pub ended_by_nobody : (w : WorkerId) (o : Outcome) → runs_by w (mark_from o) ≡ false
+ended_by_nobody w (outcomes.Number n) = refl
+ended_by_nobody w (outcomes.Digest d) = refl
+ended_by_nobody w outcomes.NotThere = refl
+ended_by_nobody w _ = refl
 
 either : (w : WorkerId) (b : Bool) → runs_by w (cond b Passed Failed) ≡ false
 either w true = refl
@@ -79,8 +80,8 @@ others g s w (Skip t) none (UnitOf n) from to p = ap (runs_by w) p.2
 others g s w (Submit a) none (ActionOf n) from to p = ap (runs_by w) p.2
 others g s w (Submit a) none (UnitOf n) from to p = ap (runs_by w) p.2
 others g s w (Resume a) none (ActionOf n) from to p = ap (runs_by w) p.2
-others g s w (Close d) none (UnitOf n) from to p = ap (runs_by w) p.2 ∙ given w d.outcome
-others g s w (Unblock (Some d)) none (UnitOf n) from to p = ap (runs_by w) p.2 ∙ given w d.outcome
+others g s w (Close d) none (UnitOf n) from to p = ap (runs_by w) p.2 ∙ ended_by_nobody w d.outcome
+others g s w (Unblock (Some d)) none (UnitOf n) from to p = ap (runs_by w) p.2 ∙ ended_by_nobody w d.outcome
 others g s w (End t) none (TaskOf n) from to p = ap (runs_by w) p.2 ∙ either w _
 others g s w (End t) none (ActionOf n) from to p = ap (runs_by w) p.2
 others g s w (End t) none (UnitOf n) from to p = ap (runs_by w) p.2

@@ -1,14 +1,14 @@
 use Rattle.std.proofs.Common.{rules, List, [], Ok, sym, ◌∙◌, subst}
 use Rattle.resource_lock.specs.Change.{make_all}
 use Rattle.resource_lock.specs.declared.changes.Change.{Change}
-use Rattle.lock_transforms.specs.declared.entries.Kind.{Kind}
-use Rattle.lock_transforms.specs.declared.entries.Kind.TheVariants.{HandBack}
 use Rattle.lock_transforms.specs.declared.transforms.Disposition.TheVariants.{Finished, Failed}
 use Rattle.coordination.specs.Parts.{Follows, LeadsOn}
 use Rattle.coordination.specs.declared.parts.WorkerPart.{WorkerPart}
 use Rattle.coordination.proofs.Following.{room_behind}
 use Rattle.coordination.proofs.HandedBack.{part_handed_back, room_handed_back}
-use Rattle.coordination.proofs.lemmas.Entries.{changes_made, follows_at, last_kept, leads_from, part_of_all, part_failed}
+use Rattle.coordination.proofs.ItemEntries.{part_claimed, part_closed, part_submitted, room_kept, room_to_claim}
+use Rattle.coordination.proofs.Rising.{marks_rise}
+use Rattle.coordination.proofs.lemmas.Entries.{changes_made, finished_as, follows_at, last_kept, leads_from, part_of_all, part_failed}
 use Rattle.coordination.proofs.parts.WorkerPart.follow.Goals as goal
 
 pub last_changes-requires : goal.last_changes-requires
@@ -67,19 +67,31 @@ returns-in-Ok-Failed-clause-part c =
     part_failed c.args.worker kind old new c.args.self.now c.len-self-in-Ok-Failed.result f c.len-self-in-Ok-Failed.ensures.value
 
 pub returns-in-HandBack-clause-part : goal.returns-in-HandBack-clause-part
-returns-in-HandBack-clause-part c =
-    let old = c.requires.0 in
-    let new = c.args.book.now in
-    let w = c.args.worker in
-    let part : WorkerPart = c.args.self.now in
-    let f : Follows w HandBack old new (Ok Finished) part = subst (λ (k : Kind). Follows w k old new (Ok Finished) part) c.in-HandBack.is (follows_at w c.args.kind old new c.args.ran.now (Ok Finished) part (search rules) c.requires.1) in
-    part_handed_back w old new part c.note_hand_back.new.self c.len-self.result f c.note_hand_back.ensures c.len-self.ensures.value
+returns-in-HandBack-clause-part c = part_handed_back (finished_as c.requires.1 (search rules) c.in-HandBack.is) c.len-self.result c.note_hand_back.new.self c.note_hand_back.ensures c.len-self.ensures.value
 
 pub returns-in-HandBack-clause-room : goal.returns-in-HandBack-clause-room
-returns-in-HandBack-clause-room c =
-    let old = c.requires.0 in
-    let new = c.args.book.now in
-    let w = c.args.worker in
-    let part : WorkerPart = c.args.self.now in
-    let f : Follows w HandBack old new (Ok Finished) part = subst (λ (k : Kind). Follows w k old new (Ok Finished) part) c.in-HandBack.is (follows_at w c.args.kind old new c.args.ran.now (Ok Finished) part (search rules) c.requires.1) in
-    room_handed_back w old new part c.note_hand_back.new.self c.len-self.result f c.note_hand_back.ensures
+returns-in-HandBack-clause-room c = room_handed_back (finished_as c.requires.1 (search rules) c.in-HandBack.is) c.len-self.result c.note_hand_back.new.self c.note_hand_back.ensures
+
+pub note_claim-requires : goal.note_claim-requires
+note_claim-requires c = record {
+  rises = marks_rise c.requires.0.state c.args.worker c.args.self.now.claimed.items c.requires.1.kept.has.claimed;
+  room = room_to_claim (finished_as c.requires.1 (search rules) c.in-Claim.is);
+}
+
+pub returns-in-Claim-clause-part : goal.returns-in-Claim-clause-part
+returns-in-Claim-clause-part c = part_claimed (finished_as c.requires.1 (search rules) c.in-Claim.is) c.len-self.result c.note_claim.new.self c.note_claim.ensures c.len-self.ensures.value
+
+pub returns-in-Claim-clause-room : goal.returns-in-Claim-clause-room
+returns-in-Claim-clause-room c = room_kept c.args.self.now c.note_claim.new.self c.len-self.result c.requires.1.room c.note_claim.ensures
+
+pub note_close-requires : goal.note_close-requires
+note_close-requires c = marks_rise c.requires.0.state c.args.worker c.args.self.now.claimed.items c.requires.1.kept.has.claimed
+
+pub returns-in-Close-clause-part : goal.returns-in-Close-clause-part
+returns-in-Close-clause-part c = part_closed (finished_as c.requires.1 (search rules) c.in-Close.is) c.len-self.result c.note_close.new.self c.note_close.ensures c.len-self.ensures.value
+
+pub returns-in-Close-clause-room : goal.returns-in-Close-clause-room
+returns-in-Close-clause-room c = room_kept c.args.self.now c.note_close.new.self c.len-self.result c.requires.1.room c.note_close.ensures
+
+pub returns-in-Submit-clause-part : goal.returns-in-Submit-clause-part
+returns-in-Submit-clause-part c = part_submitted (finished_as c.requires.1 (search rules) c.in-Submit.is) c.len-self.result c.len-self.ensures.value
