@@ -2,10 +2,9 @@ pub mod lemmas
 pub mod Claiming
 pub mod Parking
 pub mod TaskSteps
-pub mod NextSteps
 pub mod QueuedItems
-pub mod AfterEnding
 pub mod AfterClosing
+pub mod AfterEnding
 pub mod QueuedClaims
 pub mod TaskMoves
 pub mod TaskActions

@@ -1,4 +1,4 @@
 pub mod After
 pub mod Resumed
 pub mod Turns
-pub mod Next
+pub mod NextWork

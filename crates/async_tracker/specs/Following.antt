@@ -5,15 +5,12 @@ use Rattle.lock_journal.specs.BookView.{BookView}
 use Rattle.lock_transforms.specs.Allowed.{IsFixedList}
 use Rattle.lock_transforms.specs.declared.entries.Kind.{Kind}
 use Rattle.lock_transforms.specs.declared.entries.Kind.TheVariants as kinds
-use Rattle.worker_choices.specs.declared.choices.Choice.{Choice}
 use Rattle.coordination.specs.Attempts.{Cause, Making}
 use Rattle.coordination.specs.Calls.{HasFinished}
 use Rattle.coordination.specs.Decisions.{HasDecided}
-use Rattle.coordination.specs.Offered.{Telling}
 use Rattle.coordination.specs.RunThenDecide.{decided_of}
 use Rattle.coordination.specs.declared.decisions.Decided.{Decided}
 use Rattle.coordination.specs.declared.rule.Sight.{Sight}
-use Rattle.async_tracker.specs.NextSteps.{HasTakenNext, IsIdleIn, ShowsNext, taken_of}
 use Rattle.async_tracker.specs.Tasks.{ShowsEnded}
 
 -- The book is the very one that the pass had seen, with no entry in between, or what was to be done had to wait there.
@@ -26,12 +23,6 @@ pub record HasEndedThen (t : ℕ) (old : Sight) (after : Sight → Type 0) : Typ
   pub ended : HasFinished (kinds.End t) (IsFixedList (kinds.End t)) old between
   pub shows : ShowsEnded t old between
   pub then : after between
-
--- What was next was done at once, unless nothing was next.
-pub record HasTakenAfter (tells : Telling) (old new : Sight) (choice : Choice) : Type 0 where
-  pub taken : HasTakenNext tells old new choice
-  pub shows : ShowsNext old new choice
-  pub at_once : IsAtOnceUnless (IsIdleIn tells) old (taken_of tells old new choice taken)
 
 -- It was decided at once, unless the decision had to wait.
 pub record HasDecidedAfter {A X : Type 0} (answers : WorkerId → BookView → A → Type 0) (waits : WorkerId → BookView → Type 0) (step_of : A → Option X)

@@ -2,8 +2,6 @@ pub mod ParkedView
 pub mod Shows
 pub mod Tasks
 pub mod Waits
-pub mod NextSteps
-pub mod ParkedSteps
 pub mod WorkSteps
 pub mod NextWork
 pub mod TaskMoves

@@ -1,5 +1,5 @@
 -- The steps of workers whose items wait in the book.
-use Rattle.std.specs.Prelude.{◌≡◌, ◌≢◌, ◌<◌, ◌≤◌, ℕ, false, Some, length}
+use Rattle.std.specs.Prelude.{◌≡◌, ◌≢◌, ◌<◌, ◌≤◌, ◌⊎◌, ℕ, false, Option, Some, length}
 use Rattle.resource_lock.specs.GraphView.{GraphView}
 use Rattle.resource_lock.specs.StateView.{StateView, mark_of}
 use Rattle.resource_lock.specs.declared.ids.WorkerId.{WorkerId}
@@ -9,6 +9,9 @@ use Rattle.lock_transforms.specs.Allowed.{IsDisabled, IsUnmet}
 use Rattle.lock_transforms.specs.Table.{is_enabled}
 use Rattle.lock_transforms.specs.declared.entries.Kind.{Kind}
 use Rattle.lock_transforms.specs.declared.entries.Kind.TheVariants as kinds
+use Rattle.lock_journal.specs.BookView.{BookView}
+use Rattle.coordination.specs.Decisions.{HasFailedIn, IsToWaitIn}
+use Rattle.coordination.specs.declared.rule.Sight.{Sight}
 use Rattle.async_tracker.specs.declared.work_steps.WorkStep.{WorkStep}
 use Rattle.async_tracker.specs.declared.work_steps.WorkStep.TheVariants.{Start, Skip, Claim, Resume, Fetch, Submit, Park, End}
 
@@ -44,3 +47,7 @@ RetriesAt (Fetch u) g w s = IsUnmet (kinds.Block (Some u)) g w s
 RetriesAt (Submit a) g w s = IsDisabled (kinds.Submit a) g w s
 RetriesAt (Park a) g w s = IsDisabled (kinds.Park a) g w s
 RetriesAt (End t) g w s = IsDisabled (kinds.End t) g w s
+
+-- The entry of this answer's step failed, or wasn't allowed yet, in the very book of which the answer was given.
+abbrev pub IsRefused : {A : Type 0} → (WorkerId → BookView → A → Type 0) → (A → Option WorkStep) → A → Sight → Sight → Type 0
+IsRefused answers step_of a old new = HasFailedIn answers step_of kind_of_work FailsAt old new a ⊎ IsToWaitIn answers step_of RetriesAt old new a

@@ -1,50 +1,48 @@
-//! A task's end, and what is next, in one hold of the state lock.
+//! A task's end, and what is decided behind it, in one hold of the state lock.
 ghost use Rattle.std.specs.Prelude.{◌≡◌, ◌<◌, ◌⊎◌, Err, IfOk, OnErr, length};
 ghost use Rattle.resource_lock.specs.declared.ids.WorkerId.{WorkerId};
 ghost use Rattle.coordination.specs.Calls.{AskedInVain, HasLooked, WasStopped};
 ghost use Rattle.coordination.specs.Decisions.{CouldNotStep};
-ghost use Rattle.coordination.specs.Holds.{HoldsNothing};
-ghost use Rattle.coordination.specs.Offered.{AreTold};
+ghost use Rattle.coordination.specs.Offered.{AreTold, AsTold, WaitsAsTold};
 ghost use Rattle.coordination.specs.Shown.{ShowsTheSame};
-ghost use Rattle.coordination.specs.declared.rule.Sight.{Sight};
-ghost use Rattle.async_tracker.specs.Following.{HasEndedThen, HasTakenAfter};
-ghost use Rattle.async_tracker.specs.NextSteps.{IsIdleIn, IsNextIn, step_of_choice};
+ghost use Rattle.async_tracker.specs.Following.{HasDecidedAfter, HasEndedThen};
 ghost use Rattle.async_tracker.specs.Tasks.{CannotEnd, MayEnd, ShowsEnded};
 
-use crate::next_steps::{WhatIsNext, choice_of, take_next};
-use coordination::{Coordination, Followed, Halt, Offers, Pass, Runner};
+use coordination::{Coordination, Decided, Decision, Followed, Halt, Offers, Pass, Runner};
 use lock_transforms::kinds::End;
 use std::sync::Wait;
-use worker_choices::Choice;
 
-/// Ends the task that the worker runs, as `end_task`, and does what is next for a worker that has nothing, as `take_next`: in one hold
-/// of the state lock, each in an entry of its own. Once the task has ended the worker has nothing.
+/// Ends the task that the worker runs, as `end_task`, and decides: in one hold of the state lock where there is an answer at once.
 ///
-/// Where nothing is next yet, that waits in a hold of its own, and other workers may have made entries in between. After an error the
+/// Where there is none yet the decision waits in a hold of its own, and other workers may have made entries in between. After an error the
 /// task has ended, or the pass shows what it showed.
-pub fn end_and_take_next<R: Wait, O: Offers, K: Runner>(
+pub fn end_then<R: Wait, O: Offers, K: Runner, Q: Decision>(
     rt: &R,
     service: &Coordination<O, K>,
     pass: &mut Pass,
     task: u32,
-) -> Result<Choice, Halt>
+    next: &Q,
+) -> Result<Decided<Q::Answer>, Halt>
+where
+    Q::Answer: Drop,
     requires service { pass.old.service ≡ service.now.service }
     requires in_range { task < length pass.old.sight.seen.graph.tasks }
     requires may { MayEnd pass.old.sight task }
-    requires alone { (s : Sight) → ShowsEnded task pass.old.sight s → HoldsNothing s }
     ensures service { pass.new.service ≡ pass.old.service }
-    ensures taken { IfOk result (λ choice. HasEndedThen task pass.old.sight
-        (λ s. HasTakenAfter (AreTold O.tells) s pass.new.sight choice)) }
+    ensures decided { IfOk result (λ decided. HasEndedThen task pass.old.sight (λ s. HasDecidedAfter
+        (AsTold (AreTold O.tells) (Q.answers next.now)) (WaitsAsTold (AreTold O.tells) (Q.waits_on next.now)) (Q.step_of next.now)
+        Q.Step.kind_of Q.Step.makes Q.Step.fails_on Q.Step.retries_on s pass.new.sight decided)) }
     ensures kept { OnErr result (ShowsTheSame pass.old.sight pass.new.sight ⊎ ShowsEnded task pass.old.sight pass.new.sight) }
     ensures no_memory { result ≡ Err Halt.NoMemory → HasLooked pass.old.sight pass.new.sight
-        ⊎ HasEndedThen task pass.old.sight (λ s. CouldNotStep (IsNextIn (AreTold O.tells)) step_of_choice s pass.new.sight) }
+        ⊎ HasEndedThen task pass.old.sight
+        (λ s. CouldNotStep (AsTold (AreTold O.tells) (Q.answers next.now)) (Q.step_of next.now) s pass.new.sight) }
     ensures stopped { (by : WorkerId) → result ≡ Err (Halt.Stopped by) → WasStopped (CannotEnd task) by pass.old.sight pass.new.sight
-        ⊎ HasEndedThen task pass.old.sight (λ s. AskedInVain (IsIdleIn (AreTold O.tells)) by s pass.new.sight) }
+        ⊎ HasEndedThen task pass.old.sight (λ s. AskedInVain (WaitsAsTold (AreTold O.tells) (Q.waits_on next.now)) by s pass.new.sight) }
 {
-    match service.run_then_decide(rt, pass, &End { task }, &WhatIsNext)? {
+    match service.run_then_decide(rt, pass, &End { task }, next)? {
         Followed::Failed => unreachable!(),
-        Followed::Undecided => take_next(rt, service, pass),
+        Followed::Undecided => service.decide(rt, pass, next),
         Followed::NoMemory => Err(Halt::NoMemory),
-        Followed::Decided(decided) => Ok(choice_of(decided)),
+        Followed::Decided(decided) => Ok(decided),
     }
 }

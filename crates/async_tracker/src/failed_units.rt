@@ -1,6 +1,6 @@
 //! What the state of a book has ready for its workers.
 ghost use Rattle.std.specs.Prelude.{◌≡◌, ◌<◌, length};
-ghost use Rattle.async_tracker.specs.ParkedSteps.{has_failed};
+ghost use Rattle.async_tracker.specs.NextWork.{has_failed};
 
 use lock_journal::Book;
 use lock_transforms::kinds::action_of;

@@ -1,5 +1,5 @@
 ghost use Rattle.std.specs.List.{list_any};
-ghost use Rattle.std.specs.Prelude.{◌≡◌, Some, false, true, ℕ};
+ghost use Rattle.std.specs.Prelude.{◌≡◌, ◌<◌, Bool, Some, false, length, true, ℕ};
 ghost use Rattle.resource_lock.specs.Fits.{Fits};
 ghost use Rattle.resource_lock.specs.GraphView.{action_of};
 ghost use Rattle.resource_lock.specs.Ranges.{lock_with};
@@ -10,11 +10,19 @@ ghost use Rattle.lock_journal.specs.Own.{is_unit};
 ghost use Rattle.lock_transforms.specs.Table.{condition, is_enabled};
 ghost use Rattle.lock_transforms.specs.declared.entries.Kind.TheVariants as kinds;
 ghost use Rattle.coordination.specs.Agrees.{Finds};
+ghost use Rattle.coordination.specs.Decisions.{HasFailedIn, IsToWaitIn};
+ghost use Rattle.coordination.specs.Holds.{HoldsNothing};
+ghost use Rattle.coordination.specs.Offered.{AsTold, Telling};
 ghost use Rattle.coordination.specs.Shown.{ShowsTheSame, claimed_shown, lease_shown};
 ghost use Rattle.coordination.specs.declared.rule.Sight.{Sight};
+ghost use Rattle.async_tracker.specs.NextWork.{IsNextParkedWorkIf, IsNextWorkIf, step_of_next, step_of_parked};
 ghost use Rattle.async_tracker.specs.ParkedView.{ParkedView};
 ghost use Rattle.async_tracker.specs.Shows.{HasReleased, IsFree, IsIdleOrParked, IsParkedBy, OwnsToPark, ShowsClaimed, ShowsClosed, WorksOn};
 ghost use Rattle.async_tracker.specs.TaskMoves.{IsNextInTask};
+ghost use Rattle.async_tracker.specs.Tasks.{CannotSkip};
+ghost use Rattle.async_tracker.specs.WorkSteps.{FailsAt, IsRefused, RetriesAt, kind_of_work};
+ghost use Rattle.async_tracker.specs.declared.next_work.NextWork.TheVariants as next;
+ghost use Rattle.async_tracker.specs.declared.next_work.ParkedWork.TheVariants as parked;
 ghost use Rattle.async_tracker.specs.declared.task_moves.TaskMove.TheVariants as moves;
 
 /// After an item was claimed and closed the pass shows what it showed before. So a worker that waits
@@ -42,4 +50,23 @@ pub fn next_moves_are_possible()
     ensures end { (old : Sight) (book : BookView) (t : ℕ) → Fits book.graph → Finds old.worker old.seen book → WorksOn old t
         → list_any is_unit (claimed_shown old) ≡ false → IsNextInTask book.graph old.worker book.state t moves.End
         → condition book.graph book.state old.worker (kinds.End t) ≡ true }
+{}
+
+/// What `TakeNextWork` and `TakeParkedWork` decide is done in the book that it was decided of, whatever is offered: a claim, a start and a
+/// worker's going on neither fail nor wait. A skip doesn't wait either, and fails only where one of the task's marks can't be skipped.
+pub fn next_work_is_possible()
+    ensures claim { (tells : Telling) (old new : Sight) (u : ℕ) → Fits old.seen.graph → HoldsNothing old
+        → IsRefused (AsTold tells IsNextWorkIf) step_of_next (next.Claim u) old new → ⊥ }
+    ensures start { (tells : Telling) (old new : Sight) (t : ℕ) → HoldsNothing old
+        → IsRefused (AsTold tells IsNextWorkIf) step_of_next (next.Start t) old new → ⊥ }
+    ensures skip { (tells : Telling) (old new : Sight) (t : ℕ) → IsToWaitIn (AsTold tells IsNextWorkIf) step_of_next RetriesAt old new (next.Skip t) → ⊥ }
+    ensures skip_fails { (tells : Telling) (old new : Sight) (t : ℕ) → HoldsNothing old
+        → (f : HasFailedIn (AsTold tells IsNextWorkIf) step_of_next kind_of_work FailsAt old new (next.Skip t))
+        → CannotSkip t f.failed.before.graph old.worker f.failed.before.state }
+    ensures parked_claim { (tells : Telling) (p : ParkedView) (old new : Sight) (u : ℕ) → Fits old.seen.graph
+        → p.action < length old.seen.graph.actions → IsFree old → IsIdleOrParked old
+        → IsRefused (AsTold tells (IsNextParkedWorkIf p.action)) (step_of_parked p.action) (parked.Claim u) old new → ⊥ }
+    ensures resume { (tells : Telling) (p : ParkedView) (old new : Sight) (failed : Bool) → p.action < length old.seen.graph.actions
+        → IsParkedBy old p → IsFree old
+        → IsRefused (AsTold tells (IsNextParkedWorkIf p.action)) (step_of_parked p.action) (parked.Resume failed) old new → ⊥ }
 {}

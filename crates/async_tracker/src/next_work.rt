@@ -1,13 +1,12 @@
 //! What a worker does next whose items wait in the book, and the step of that.
-ghost use Rattle.std.specs.Prelude.{◌<◌, Some, false, length};
+ghost use Rattle.std.specs.Prelude.{◌≡◌, ◌<◌, Some, false, length};
 ghost use Rattle.worker_choices.specs.NextSteps.{HasToWait};
 ghost use Rattle.worker_choices.specs.declared.awaited.Awaited.TheVariants as awaited;
-ghost use Rattle.async_tracker.specs.NextSteps.{IsIdleIf};
-ghost use Rattle.async_tracker.specs.NextWork.{IsNextParkedWork, IsNextWorkIf, step_of_next, step_of_parked};
+ghost use Rattle.async_tracker.specs.NextWork.{IsIdleIf, IsNextParkedWorkIf, IsNextWorkIf, next_of, parked_of, step_of_next, step_of_parked};
 
 use crate::failed_units::has_failed;
 use crate::work_steps::WorkStep;
-use coordination::{Decision, Question};
+use coordination::{Decided, Decision, Question};
 use lock_journal::Book;
 use resource_lock::WorkerId;
 use worker_choices::{Awaited, Choice, ParkedChoice, next_of_idle, next_of_parked};
@@ -104,8 +103,7 @@ pub struct TakeParkedWork {
 impl Question for TakeParkedWork {
     type Answer = ParkedWork;
 
-    ghost answers = { λ q queued w book next. q.action < length book.graph.actions
-        → IsNextParkedWork book.graph w book.state queued q.action next };
+    ghost answers = { λ q. IsNextParkedWorkIf q.action };
 
     ghost waits_on = { λ q queued w book. q.action < length book.graph.actions → HasToWait book.graph w book.state queued q.action };
 
@@ -150,5 +148,23 @@ impl Decision for TakeParkedWork {
             ParkedWork::Claim(unit) => Some(WorkStep::Claim(unit)),
             ParkedWork::Beside => None,
         }
+    }
+}
+
+/// What an idle worker has decided.
+pub fn next_work_of(decided: Decided<NextWork>) -> NextWork
+    ensures { result ≡ next_of decided }
+{
+    match decided {
+        Decided::Answered(next) | Decided::Entered(next, _) | Decided::Waiting(next) => next,
+    }
+}
+
+/// What a parked worker has decided.
+pub fn parked_work_of(decided: Decided<ParkedWork>) -> ParkedWork
+    ensures { result ≡ parked_of decided }
+{
+    match decided {
+        Decided::Answered(next) | Decided::Entered(next, _) | Decided::Waiting(next) => next,
     }
 }

@@ -1,6 +1,6 @@
 //! A task with two items, worked by the calls: each call's conditions follow from the clauses of those
 //! before.
-ghost use Rattle.std.specs.Prelude.{◌≡◌, ◌≢◌, ◌<◌, [], ◌∷◌, All, IfOk, IfSome, Ok, OnOk, length, true};
+ghost use Rattle.std.specs.Prelude.{◌≡◌, ◌≢◌, ◌<◌, [], ◌∷◌, All, IfOk, IfSome, Ok, OnOk, length, true, ℕ};
 ghost use Rattle.resource_lock.specs.declared.marks.MarkId.TheVariants as ids;
 ghost use Rattle.item_actions.specs.declared.outcomes.Outcome.TheVariants as outcomes;
 ghost use Rattle.coordination.specs.Holds.{HoldsNothing};
@@ -8,8 +8,8 @@ ghost use Rattle.coordination.specs.Shown.{Shows};
 ghost use Rattle.async_tracker_tests.specs.TwoItems.{CanEnd, CanHelp, HasTwoItems};
 
 use async_tracker::{
-    Held, Parked, claim, close, closing_undoes_claiming, end_task, park, resume, start_task,
-    submit, submit_and_park, take_next,
+    Held, NextWork, Parked, TakeNextWork, claim, close, closing_undoes_claiming, end_task,
+    next_work_of, park, resume, start_task, submit, submit_and_park,
 };
 use coordination::{Coordination, Halt, Opened, Pass};
 use coordination_tests::entries::{EntryRow, are_entries};
@@ -21,7 +21,6 @@ use state_tests::rows::{Limits, TaskRow};
 use std::alloc::{AllocError, Global};
 use std::process::Abort;
 use std::sync::Wait;
-use worker_choices::Choice;
 
 // Starts the task. False says that it can't be started.
 fn start<R: Wait>(rt: &R, service: &Coordination, pass: &mut Pass) -> Result<bool, Halt>
@@ -372,29 +371,23 @@ fn try_too_early<R: Wait>(rt: &R, service: &Coordination, pass: &mut Pass) -> Re
     Ok(first && unit == 1 && !again && second && resume(rt, service, pass, parked).is_ok())
 }
 
-// Does what is next in a service without tickets, where there is never one to pop.
-fn take_without_tickets<R: Wait>(
-    rt: &R,
-    service: &Coordination,
-    pass: &mut Pass,
-) -> Result<Choice, Halt>
-    requires service { pass.old.service ≡ service.now.service }
-    requires rests { HoldsNothing pass.old.sight }
+// Decides what is next in a service that offers no items, where there is never one to claim.
+fn decide_alone<R: Wait>(rt: &R, service: &Coordination, pass: &mut Pass) -> Result<NextWork, Halt>
+    requires { pass.old.service ≡ service.now.service }
     ensures service { pass.new.service ≡ pass.old.service }
-    ensures pops { result ≢ Ok Choice.Pop }
+    ensures beside { result ≢ Ok NextWork.Beside }
+    ensures claims { (unit : ℕ) → result ≢ Ok (NextWork.Claim unit) }
 {
-    take_next(rt, service, pass)
+    let decided = service.decide(rt, pass, &TakeNextWork)?;
+    Ok(next_work_of(decided))
 }
 
 // Whether the worker starts the task as what is next.
 fn starts_what_is_next<R: Wait>(rt: &R, service: &Coordination, pass: &mut Pass) -> bool
-    requires service { pass.old.service ≡ service.now.service }
-    requires rests { HoldsNothing pass.old.sight }
+    requires { pass.old.service ≡ service.now.service }
 {
-    matches!(
-        take_without_tickets(rt, service, pass),
-        Ok(Choice::Start(0))
-    ) && pass.last() == 1
+    matches!(decide_alone(rt, service, pass), Ok(NextWork::Start(0)))
+        && pass.last() == 1
         && pass.has_lease()
         && are_entries(rt, service, pass, &WORKED[..1])
 }

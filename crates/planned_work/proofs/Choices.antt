@@ -10,8 +10,7 @@ use Rattle.coordination.specs.declared.decisions.Decided.TheVariants as decided
 use Rattle.coordination.specs.declared.rule.Sight.{Sight}
 use Rattle.coordination.proofs.lemmas.Entries.{belongs_sound}
 use Rattle.worker_choices.specs.NextSteps.{HasToWait}
-use Rattle.async_tracker.specs.NextSteps.{IsIdleIf}
-use Rattle.async_tracker.specs.NextWork.{IsNextParkedWork, IsNextWorkIf, step_of_next, step_of_parked}
+use Rattle.async_tracker.specs.NextWork.{IsIdleIf, IsNextParkedWork, IsNextWorkIf, step_of_next, step_of_parked}
 use Rattle.async_tracker.specs.TaskMoves.{IsNextInTask, step_of_move}
 use Rattle.async_tracker.specs.WorkSteps.{FailsAt, RetriesAt, kind_of_work}
 use Rattle.async_tracker.specs.declared.next_work.NextWork.{NextWork}

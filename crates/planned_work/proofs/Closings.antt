@@ -8,8 +8,7 @@ use Rattle.lock_transforms.specs.declared.entries.Kind.TheVariants as kinds
 use Rattle.coordination.specs.Agrees.{Finds}
 use Rattle.coordination.specs.Decisions.{HadStep}
 use Rattle.coordination.specs.declared.rule.Sight.{Sight}
-use Rattle.async_tracker.specs.NextSteps.{IsIdleIf}
-use Rattle.async_tracker.specs.NextWork.{IsNextWorkIf, step_of_next, step_of_parked}
+use Rattle.async_tracker.specs.NextWork.{IsIdleIf, IsNextWorkIf, step_of_next, step_of_parked}
 use Rattle.async_tracker.specs.WorkSteps.{FailsAt, RetriesAt, kind_of_work}
 use Rattle.async_tracker.specs.declared.next_work.NextWork.{NextWork}
 use Rattle.async_tracker.specs.declared.next_work.ParkedWork.{ParkedWork}

@@ -21,6 +21,7 @@ use Rattle.coordination.specs.Shown.{blocked_shown, claimed_shown, lease_shown}
 use Rattle.coordination.specs.declared.rule.Sight.{Sight}
 use Rattle.async_tracker.specs.NextWork.{step_of_next, step_of_parked}
 use Rattle.async_tracker.specs.TaskMoves.{step_of_move}
+use Rattle.async_tracker.specs.WorkSteps.{IsRefused}
 use Rattle.async_tracker.specs.declared.next_work.NextWork.TheVariants as next
 use Rattle.async_tracker.specs.declared.next_work.ParkedWork.TheVariants as parked
 use Rattle.async_tracker.specs.declared.task_moves.TaskMove.TheVariants as moves
@@ -30,10 +31,11 @@ use Rattle.async_tracker.proofs.AtOnce.{next_end}
 use Rattle.async_tracker.proofs.Claiming.{close_never_waits}
 use Rattle.async_tracker.proofs.TaskActions.{all_range}
 use Rattle.async_tracker.proofs.TaskSteps.{cannot_skip}
+use Rattle.async_tracker.proofs.lemmas.NextWork.{never_refused}
 use Rattle.planned_work.specs.Done.{CloseLeaves, ClosedAlone, DoneIn, DoneLeaves, DoneNextIn, DoneNextLeaves, TakeUpLeaves, closed_as, next_of_answer}
 use Rattle.planned_work.specs.Fitting.{IsPlanFit}
 use Rattle.planned_work.specs.InPlace.{HasReleasedTask, ReleasesLast}
-use Rattle.planned_work.specs.Next.{IsIdleChoice, IsMove, IsParkedChoice, IsRefused, IsStuckAt, NextLeaves}
+use Rattle.planned_work.specs.Next.{IsIdleChoice, IsMove, IsParkedChoice, IsStuckAt, NextLeaves}
 use Rattle.planned_work.specs.Places.{may_enter, place_of, unit_in}
 use Rattle.planned_work.specs.Sections.{EnterLeaves}
 use Rattle.planned_work.specs.Trying.{HasToWaitFor, InBook}
@@ -48,7 +50,7 @@ use Rattle.planned_work.proofs.AtPlaces.{owns_to_park, parked_by, parked_free, p
 use Rattle.planned_work.proofs.NeverStuck.{enters_always, fetch_ends, fits_as, section_ends, unit_stands}
 use Rattle.planned_work.proofs.Order.{AreInOrder, HasCome, order_after}
 use Rattle.planned_work.proofs.Placed.{task_there}
-use Rattle.planned_work.proofs.Possible.{claim_never, comes_in_task, fetch_never, never_refused, park_never, parked_claim_never, resume_never, skip_never_waits, start_never, submit_never}
+use Rattle.planned_work.proofs.Possible.{claim_never, comes_in_task, fetch_never, park_never, parked_claim_never, resume_never, skip_never_waits, start_never, submit_never}
 use Rattle.planned_work.proofs.Skips.{can_end, can_skip}
 
 told_stuck : (a : Answer) → nexts.Stuck ≡ next_of_answer a → a ≡ answers.Stuck

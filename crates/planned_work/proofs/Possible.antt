@@ -1,5 +1,5 @@
 -- What the rules give next is done at once, in the very book of which they gave it.
-use Rattle.std.proofs.Common.{◌≡◌, ◌+◌, ◌<◌, ℕ, zero, suc, Bool, true, false, Option, Some, inl, inr, length, refl, sym, ◌∙◌, subst, arith}
+use Rattle.std.proofs.Common.{◌≡◌, ◌+◌, ◌<◌, ℕ, zero, suc, Bool, true, false, Some, inl, length, refl, sym, ◌∙◌, subst, arith}
 use Rattle.std.specs.Prelude.{find, if◌then◌else◌}
 use Rattle.std.specs.List.{list_any, range_with_len}
 use Rattle.std.proofs.lemmas.Bool.{and_parts, false≢true}
@@ -11,15 +11,11 @@ use Rattle.resource_lock.specs.StateView.{StateView, mark_of}
 use Rattle.resource_lock.specs.declared.ids.WorkerId.{WorkerId}
 use Rattle.resource_lock.specs.declared.marks.Mark.TheVariants.{Waiting}
 use Rattle.resource_lock.specs.declared.marks.MarkId.TheVariants.{Unit as UnitOf}
-use Rattle.ready_work.specs.Choices.{IsQueued, has_queued}
-use Rattle.ready_work.specs.Lowest.{IsLowest}
+use Rattle.ready_work.specs.Choices.{has_queued}
 use Rattle.lock_transforms.specs.Table.{condition, is_enabled, list_of}
 use Rattle.lock_transforms.specs.declared.entries.Kind.TheVariants as kinds
-use Rattle.lock_journal.specs.BookView.{BookView}
 use Rattle.lock_journal.specs.Own.{is_unit}
 use Rattle.lock_journal.proofs.lemmas.Fitting.{apart_of}
-use Rattle.worker_choices.specs.NextSteps.{can_pop}
-use Rattle.coordination.specs.Agrees.{Finds}
 use Rattle.coordination.specs.Decisions.{IsToWaitIn}
 use Rattle.coordination.specs.Holds.{HoldsNothing}
 use Rattle.coordination.specs.Shown.{claimed_shown}
@@ -28,60 +24,29 @@ use Rattle.async_tracker.specs.NextWork.{step_of_next, step_of_parked}
 use Rattle.async_tracker.specs.ParkedView.{ParkedView}
 use Rattle.async_tracker.specs.Shows.{IsFree, IsIdleOrParked, IsParkedBy, OwnsToPark, WorksOn}
 use Rattle.async_tracker.specs.TaskMoves.{IsNextInTask, can_come, fetch_waits, first_to_come, is_queued, step_of_move}
-use Rattle.async_tracker.specs.WorkSteps.{FailsAt, RetriesAt}
+use Rattle.async_tracker.specs.WorkSteps.{IsRefused, RetriesAt}
 use Rattle.async_tracker.specs.declared.next_work.NextWork.TheVariants as next
 use Rattle.async_tracker.specs.declared.next_work.ParkedWork.TheVariants as parked
 use Rattle.async_tracker.specs.declared.task_moves.TaskMove.TheVariants as moves
 use Rattle.async_tracker.specs.declared.work_steps.WorkStep.{WorkStep}
 use Rattle.async_tracker.specs.declared.work_steps.WorkStep.TheVariants as steps
 use Rattle.async_tracker.proofs.AtOnce.{next_fetch, next_items, next_wait}
-use Rattle.async_tracker.proofs.QueuedClaims.{claims_at_once}
-use Rattle.async_tracker.proofs.TaskSteps.{cannot_start}
-use Rattle.async_tracker.proofs.lemmas.Resumed.{resumes_at_once}
-use Rattle.planned_work.specs.Next.{IsIdleChoice, IsMove, IsParkedChoice, IsRefused}
-
--- the step neither fails nor asks to be run again
-abbrev IsPossible : WorkStep → GraphView → WorkerId → StateView → Type 0
-IsPossible step g w s = (FailsAt step g w s → ⊥) × (RetriesAt step g w s → ⊥)
-
-same_step : (a b : WorkStep) → Some a ≡ Some b → a ≡ b
-same_step a b is = cc
-
--- a step that is possible in each book of which its answer may be given is refused in none
-pub never_refused : {A : Type 0} (answers : WorkerId → BookView → A → Type 0) (step_of : A → Option WorkStep) (a : A) (step : WorkStep) (old new : Sight) → step_of a ≡ Some step
-    → ((book : BookView) → Finds old.worker old.seen book → answers old.worker book a → IsPossible step book.graph old.worker book.state) → IsRefused answers step_of a old new → ⊥
-never_refused answers step_of a step old new is possible (inl f) =
-    let before = f.failed.before in
-    (possible before f.failed.found f.answer).0 (subst (λ (x : WorkStep). FailsAt x before.graph old.worker before.state) (same_step f.step step (sym f.is ∙ is)) f.failed.failed.cause)
-never_refused answers step_of a step old new is possible (inr k) =
-    (possible k.before k.found k.answer).1 (subst (λ (x : WorkStep). RetriesAt x k.before.graph old.worker k.before.state) (same_step k.step step (sym k.is ∙ is)) k.unchanged.cause)
-
-fits_in : (old : Sight) (book : BookView) → Fits old.seen.graph → Finds old.worker old.seen book → Fits book.graph
-fits_in old book fits found = subst Fits (sym found.agrees.graph) fits
+use Rattle.async_tracker.proofs.lemmas.NextWork.{fits_in, idle_claims, never_refused, parked_claims, resumes, same_step, starts}
+use Rattle.planned_work.specs.Next.{IsIdleChoice, IsMove, IsParkedChoice}
 
 -- the claim of the lowest queued unit
-claims : (old : Sight) (book : BookView) (u : ℕ) → Fits old.seen.graph → Finds old.worker old.seen book → IsFree old → IsIdleOrParked old → can_pop old.worker book.state (has_queued book.state) ≡ true
-    → IsLowest (IsQueued book.graph book.state) u → IsPossible (steps.Claim u) book.graph old.worker book.state
-claims old book u fits found free waits pops low = (
-  λ fails. fails low.is.queued,
-  λ again. false≢true (sym (again low.is.within).1 ∙ claims_at_once old book u (has_queued book.state) (fits_in old book fits found) found free waits pops low.is),
-)
-
 pub claim_never : (old new : Sight) (u : ℕ) → Fits old.seen.graph → IsFree old → IsIdleOrParked old → IsRefused IsIdleChoice step_of_next (next.Claim u) old new → ⊥
-claim_never old new u fits free waits = never_refused IsIdleChoice step_of_next (next.Claim u) (steps.Claim u) old new refl (λ book found answer. claims old book u fits found free waits answer.0 answer.1)
+claim_never old new u fits free waits =
+    never_refused IsIdleChoice step_of_next (next.Claim u) (steps.Claim u) old new refl (λ book found choice. idle_claims old book u (has_queued book.state) fits found free waits choice)
 
 pub parked_claim_never : (old new : Sight) (a u : ℕ) → Fits old.seen.graph → IsFree old → IsIdleOrParked old → IsRefused (IsParkedChoice a) (step_of_parked a) (parked.Claim u) old new → ⊥
 parked_claim_never old new a u fits free waits =
-    never_refused (IsParkedChoice a) (step_of_parked a) (parked.Claim u) (steps.Claim u) old new refl (λ book found answer. claims old book u fits found free waits answer.1 answer.2)
+    never_refused (IsParkedChoice a) (step_of_parked a) (parked.Claim u) (steps.Claim u) old new refl (λ book found choice. parked_claims old book a u (has_queued book.state) fits found free waits choice)
 
 -- a start, and a skip that doesn't wait
 pub start_never : (old new : Sight) (t : ℕ) → HoldsNothing old → IsRefused IsIdleChoice step_of_next (next.Start t) old new → ⊥
 start_never old new t rests =
-    never_refused IsIdleChoice step_of_next (next.Start t) (steps.Start t) old new refl
-    (λ book found answer. (
-      λ fails. cannot_start old book t found rests fails answer.2.is,
-      λ again. let within = answer.2.is.start.within in omega (arith, again, within),
-    ))
+    never_refused IsIdleChoice step_of_next (next.Start t) (steps.Start t) old new refl (λ book found choice. starts old book t (has_queued book.state) found rests choice)
 
 pub skip_never_waits : (old new : Sight) (t : ℕ) → IsToWaitIn IsIdleChoice step_of_next RetriesAt old new (next.Skip t) → ⊥
 skip_never_waits old new t k =
@@ -93,7 +58,7 @@ skip_never_waits old new t k =
 pub resume_never : (old new : Sight) (p : ParkedView) (failed : Bool) → IsParkedBy old p → IsFree old → IsRefused (IsParkedChoice p.action) (step_of_parked p.action) (parked.Resume failed) old new → ⊥
 resume_never old new p failed by free =
     never_refused (IsParkedChoice p.action) (step_of_parked p.action) (parked.Resume failed) (steps.Resume p.action) old new refl
-    (λ book found answer. (λ no. no, λ again. resumes_at_once old book p found by free answer.0 again))
+    (λ book found choice. resumes old book p (has_queued book.state) failed found by free choice)
 
 -- what is next in a task
 enabled_meets : (g : GraphView) (s : StateView) (w : WorkerId) (u : ℕ) → is_enabled g s w (kinds.Block (Some u)) ≡ true → condition g s w (kinds.Block (Some u)) ≡ true

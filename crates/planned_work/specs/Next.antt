@@ -8,12 +8,11 @@ use Rattle.lock_transforms.specs.declared.entries.Kind.{Kind}
 use Rattle.lock_transforms.specs.declared.entries.Kind.TheVariants as kinds
 use Rattle.worker_choices.specs.NextSteps.{HasNothingToDo, HasToWait}
 use Rattle.coordination.specs.Calls.{HasFinished, HasLooked, IsAnswered}
-use Rattle.coordination.specs.Decisions.{HasFailedIn, IsToWaitIn}
 use Rattle.coordination.specs.Sights.{hearing}
 use Rattle.coordination.specs.declared.rule.Sight.{Sight}
 use Rattle.async_tracker.specs.NextWork.{IsNextParkedWork, IsNextWork, step_of_next, step_of_parked}
 use Rattle.async_tracker.specs.TaskMoves.{IsNextInTask, step_of_move}
-use Rattle.async_tracker.specs.WorkSteps.{FailsAt, RetriesAt, kind_of_work}
+use Rattle.async_tracker.specs.WorkSteps.{IsRefused}
 use Rattle.async_tracker.specs.declared.next_work.NextWork.{NextWork}
 use Rattle.async_tracker.specs.declared.next_work.NextWork.TheVariants as next
 use Rattle.async_tracker.specs.declared.next_work.ParkedWork.{ParkedWork}
@@ -85,11 +84,7 @@ HasNoChoice places.Idle w book = HasNothingToDo book.graph w book.state (has_que
 HasNoChoice (places.Parked a) w book = HasToWait book.graph w book.state (has_queued book.state) a
 HasNoChoice _ w book = ⊥
 
--- The entry of this choice failed, or wasn't allowed yet, in the very book of which the choice was made.
-abbrev pub IsRefused : {A : Type 0} → (WorkerId → BookView → A → Type 0) → (A → Option WorkStep) → A → Sight → Sight → Type 0
-IsRefused answers step_of a old new = HasFailedIn answers step_of kind_of_work FailsAt old new a ⊎ IsToWaitIn answers step_of RetriesAt old new a
-
--- so it was with some choice
+-- an entry was refused, which was next
 abbrev pub IsStuckWith : {A : Type 0} → (WorkerId → BookView → A → Type 0) → (A → Option WorkStep) → Sight → Sight → Type 0
 IsStuckWith {A} answers step_of old new = (a : A) × IsRefused answers step_of a old new
 

@@ -3,11 +3,14 @@ use Rattle.std.proofs.Common.{◌≡◌, ◌≢◌, Bool, true, false, Result, O
 use Rattle.std.specs.Prelude.{IfOk, OnErr, OnOk}
 use Rattle.resource_lock.specs.GraphView.{GraphView}
 use Rattle.resource_lock.specs.declared.ids.WorkerId.{WorkerId}
+use Rattle.lock_journal.specs.BookView.{BookView}
 use Rattle.lock_transforms.specs.declared.entries.Kind.{Kind}
 use Rattle.coordination.specs.Agrees.{Finds}
 use Rattle.coordination.proofs.lemmas.Growing.{agrees_self}
+use Rattle.coordination.proofs.lemmas.Shown.{stopped_shows}
 use Rattle.coordination.specs.Attempts.{Cause, Making}
-use Rattle.coordination.specs.Calls.{HasFailed, HasFinished, HasLooked}
+use Rattle.coordination.specs.Calls.{AskedInVain, HasFailed, HasFinished, HasLooked}
+use Rattle.coordination.specs.Shown.{ShowsTheSame}
 use Rattle.coordination.specs.declared.rule.Sight.{Sight}
 use Rattle.coordination.specs.declared.halts.Halt.{Halt}
 
@@ -56,3 +59,7 @@ found_again {kind} {makes} {old} {new} f = record { book = new.seen; found = sub
   where
     there : Finds old.worker f.after f.after
     there = record { agrees = agrees_self old.worker f.after; sound = f.left; known = subst (λ (g : GraphView). old.worker.0 < g.workers) (sym f.graph) f.found.known }
+
+-- a wait that a stop ended leaves what the pass shows
+pub in_vain_shows : {waits : WorkerId → BookView → Type 0} {by : WorkerId} {old new : Sight} → AskedInVain waits by old new → ShowsTheSame old new
+in_vain_shows f = stopped_shows {cause = λ g w s. Unit {0}} (record { book = f.book; found = f.found; cause = tt; stopper = f.stopper; sight = f.sight })

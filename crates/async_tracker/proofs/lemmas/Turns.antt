@@ -1,7 +1,8 @@
 -- Two calls in turn, of which the first makes no entry.
-use Rattle.std.proofs.Common.{ℕ, List, inl, inr, sym, ap, ◌∙◌, subst}
+use Rattle.std.proofs.Common.{◌≡◌, ℕ, Bool, false, cond, List, [], ◌∷◌, inl, inr, sym, ap, ◌∙◌, subst, arith}
 use Rattle.std.specs.Prelude.{Contains}
 use Rattle.std.specs.List.{list_any}
+use Rattle.std.proofs.lemmas.Bool.{cases_Bool, le-ltb}
 use Rattle.resource_lock.specs.Change.{stands_last}
 use Rattle.resource_lock.specs.GraphView.{GraphView, action_of}
 use Rattle.resource_lock.specs.Ranges.{lock_with}
@@ -10,19 +11,19 @@ use Rattle.resource_lock.specs.declared.graphs.Retention.TheVariants.{Retain, Re
 use Rattle.resource_lock.specs.declared.ids.LockId.{LockId}
 use Rattle.resource_lock.specs.declared.ids.WorkerId.{WorkerId}
 use Rattle.resource_lock.specs.declared.marks.MarkId.{MarkId}
-use Rattle.resource_lock.specs.declared.marks.MarkId.TheVariants.{Action as ActionOf}
+use Rattle.resource_lock.specs.declared.marks.MarkId.TheVariants.{Action as ActionOf, Unit as UnitOf}
 use Rattle.lock_journal.specs.BookView.{BookView}
 use Rattle.lock_transforms.specs.declared.entries.Kind.{Kind}
 use Rattle.coordination.specs.Agrees.{Finds}
 use Rattle.coordination.specs.Attempts.{Cause, Making}
 use Rattle.coordination.specs.Calls.{HasFinished, IsAnswered, WasStopped}
-use Rattle.coordination.specs.Shown.{ShowsTheSame}
+use Rattle.coordination.specs.Shown.{ShowsTheSame, lease_shown}
 use Rattle.coordination.specs.declared.rule.Sight.{Sight}
 use Rattle.coordination.proofs.lemmas.Growing.{agrees_then}
 use Rattle.async_tracker.specs.ParkedView.{ParkedView}
 use Rattle.lock_journal.specs.Own.{is_action, is_unit}
 use Rattle.lock_journal.specs.OwnChanges.{mark_before, with_member, without_member}
-use Rattle.async_tracker.specs.Shows.{HasParkedLast, IsFree, IsIdleOrParked, IsParkedBy, ShowsParked, ShowsResumed, locks_on_park, locks_on_resume, parked_on_park, parked_on_resume}
+use Rattle.async_tracker.specs.Shows.{HasParkedLast, IsFree, IsIdleOrParked, IsParkedBy, ShowsClaimed, ShowsClosed, ShowsParked, ShowsResumed, locks_on_park, locks_on_resume, parked_on_park, parked_on_resume}
 
 module _ {A : Type 0} {answers : WorkerId → BookView → A → Type 0} {a : A} {old mid : Sight} (q : IsAnswered answers a old mid) where
   found_later : (book : BookView) → Finds old.worker q.book book → Finds old.worker old.seen book
@@ -73,7 +74,7 @@ pub waits_still : {old new : Sight} → ShowsTheSame old new → IsIdleOrParked 
 waits_still same (inl idle) = inl (same.locks ∙ idle.0, same.claimed ∙ idle.1)
 waits_still same (inr parked) = inr (ap (list_any is_action) same.claimed ∙ parked)
 
--- what the pass shows of a worker that parks or resumes goes by what it showed before a call that changed nothing of it
+-- what the pass shows of a worker that parks, resumes or claims goes by what it showed before a call that changed nothing of it
 pub parked_from : {old mid new : Sight} (r : Retention) (l : LockId) (a : ℕ) → ShowsTheSame old mid → ShowsParked r l a mid new → ShowsParked r l a old new
 parked_from r l a same parked = record {
   worker = parked.worker ∙ same.worker;
@@ -94,4 +95,38 @@ resumed_from r l a same resumed = record {
   claimed = resumed.claimed ∙ ap (without_member mark_before (ActionOf a)) same.claimed;
   parked = resumed.parked ∙ ap (parked_on_resume r) same.parked;
   blocked = resumed.blocked ∙ same.blocked;
+}
+
+pub claimed_from : {old mid new : Sight} (u : ℕ) → ShowsTheSame old mid → ShowsClaimed u mid new → ShowsClaimed u old new
+claimed_from u same shows = record {
+  worker = shows.worker ∙ same.worker;
+  graph = shows.graph ∙ same.graph;
+  locks = shows.locks ∙ same.locks;
+  lease = shows.lease;
+  claimed = shows.claimed ∙ ap (with_member mark_before (UnitOf u)) same.claimed;
+  parked = shows.parked ∙ same.parked;
+  blocked = shows.blocked ∙ same.blocked;
+}
+
+-- a member that was added and taken out again
+without-with : {X : Type 0} (before : X → X → Bool) (x : X) → before x x ≡ false → (xs : List X) → without_member before x (with_member before x xs) ≡ xs
+without-with before x apart [] = λ i. cond (apart i) (x ∷ []) (cond (apart i) (x ∷ []) [])
+without-with {X = X} before x apart (y ∷ ys) = elim (cases_Bool (before y x)) [
+  | inl first ↦ ap (without_member before x) (λ i. cond (first i) (y ∷ with_member before x ys) (x ∷ y ∷ ys))
+      ∙ (λ i. cond (first i) (y ∷ without_member before x (with_member before x ys)) (cond (before x y) (y ∷ with_member before x ys) (with_member before x ys)))
+      ∙ ap (λ (zs : List X). y ∷ zs) (without-with before x apart ys)
+  | inr later ↦ ap (without_member before x) (λ i. cond (later i) (y ∷ with_member before x ys) (x ∷ y ∷ ys))
+      ∙ (λ i. cond (apart i) (x ∷ without_member before x (y ∷ ys)) (cond (apart i) (x ∷ y ∷ ys) (y ∷ ys)))
+]
+
+-- a unit that was claimed and closed again
+pub same_again : (u : ℕ) (a b c : Sight) → lease_shown a ≡ false → ShowsClaimed u a b → ShowsClosed u b c → ShowsTheSame a c
+same_again u a b c none claimed closed = record {
+  worker = closed.worker ∙ claimed.worker;
+  graph = closed.graph ∙ claimed.graph;
+  locks = closed.locks ∙ claimed.locks;
+  lease = closed.lease ∙ sym none;
+  claimed = closed.claimed ∙ (ap (without_member mark_before (UnitOf u)) claimed.claimed ∙ without-with mark_before (UnitOf u) (le-ltb u u (omega arith)) _);
+  parked = closed.parked ∙ claimed.parked;
+  blocked = closed.blocked ∙ claimed.blocked;
 }
