@@ -10,8 +10,8 @@ ghost use Rattle.build_runner.specs.Watching.{IsWatchedBy};
 ghost use Rattle.plan_reader.specs.Units.{unit_view};
 
 use crate::watching::room_for;
-use build_workers::{Hand, Kit, Queue, QueuePlace, RunOptions, RunService};
-use coordination::{Coordination, OpenedWithViews, Pass, openings_are_at_rest};
+use build_workers::{Kit, RunOptions, RunService};
+use coordination::{Coordination, OpenedWithViews, Pass, QueuedUnits, openings_are_at_rest};
 use history_views::View;
 use lock_journal::Book;
 use lock_transforms::kinds::room_for_any;
@@ -84,19 +84,19 @@ fn open_service<'a, R: Wait>(
     rt: &'a R,
     alloc: Global,
     graph: Graph,
-    place: QueuePlace,
     views: u32,
 ) -> Result<(Box<OpenedRun<'a, R>>, Vec<View>), AllocError>
     ensures opened { IfOk result (λ made. IsOpenedOn graph made.0.value.service made.0.value.passes.items) }
     ensures views { IfOk result (λ made. All (λ v. made.0.value.service.service.ledger ≡ Some v.ledger) made.1.items) }
 {
     openings_are_at_rest();
-    let book = boxed(alloc, open_book(alloc, graph)?)?;
+    let mut book = boxed(alloc, open_book(alloc, graph)?)?;
+    book.keep_queued(alloc)?;
     let OpenedWithViews {
         service,
         passes,
         views,
-    } = Coordination::open_with_views(alloc, rt, book, place, views)?;
+    } = Coordination::open_with_views(alloc, rt, book, QueuedUnits, views)?;
     Ok((boxed(alloc, OpenedRun { service, passes })?, views))
 }
 
@@ -109,15 +109,6 @@ fn graph_of(alloc: Global, plan: &Plan, options: &RunOptions) -> Result<Graph, A
     ensures { IfOk result (λ g. g ≡ graph_of plan.now options.now.workers options.now.max_leases options.now.parallel) }
 {
     plan.graph(alloc, options.workers, options.max_leases, options.parallel)
-}
-
-// How many items the graph has, up to the largest number.
-fn items_in(graph: &Graph) -> u32 {
-    let mut items = 0u32;
-    for action in graph.actions() {
-        items = items.saturating_add(action.items);
-    }
-    items
 }
 
 // The service over a book of the plan's graph, and a kit for each worker, with a view of the service where the run is watched.
@@ -138,28 +129,27 @@ fn open_for<'a, R: Wait>(
 {
     let graph = graph_of(alloc, plan, options)?;
     let units = graph.units();
-    let Queue { place, hands } = Queue::new(alloc, options.workers, items_in(&graph))?;
     let count = if options.watch { options.workers } else { 0 };
-    let (opened, views) = open_service(rt, alloc, graph, place, count)?;
-    let kits = kits_of(alloc, hands, views, units)?;
+    let (opened, views) = open_service(rt, alloc, graph, count)?;
+    let kits = kits_of(alloc, options.workers, views, units)?;
     Ok((opened, kits))
 }
 
-// A kit for each hand, with a view as long as there are views, and with room for looks at so many units.
+// A kit for each worker, with a view as long as there are views, and with room for looks at so many units.
 fn kits_of(
     alloc: Global,
-    hands: Vec<Hand>,
+    workers: u32,
     mut views: Vec<View>,
     units: u32,
 ) -> Result<Vec<Kit>, AllocError>
-    ensures len { IfOk result (λ kits. length kits.items ≡ length hands.items) }
+    ensures len { IfOk result (λ kits. length kits.items ≡ workers) }
     ensures watched { (service : ServiceId) → All (λ v. service.ledger ≡ Some v.ledger) views.items
         → IfOk result (λ kits. All (IsWatchedBy service) kits.items) }
 {
-    let mut kits = Vec::with_capacity(alloc, hands.len())?;
-    for hand in hands {
+    let mut kits = Vec::with_capacity(alloc, workers as usize)?;
+    for _ in 0..workers {
         let watcher = watcher_of(alloc, views.pop(), units)?;
-        kits.push_reserved(Kit { hand, watcher });
+        kits.push(Kit { watcher })?;
     }
     Ok(kits)
 }

@@ -1,5 +1,5 @@
 -- An item that a worker ran, and what it decided behind it.
-use Rattle.std.proofs.Common.{◌≡◌, inl, inr, true, false, List, [], ◌∷◌, Option, Result, Ok, Err, refl, subst}
+use Rattle.std.proofs.Common.{◌≡◌, inl, inr, false, List, [], ◌∷◌, Option, Result, Ok, Err, refl, subst}
 use Rattle.std.specs.Prelude.{IfOk, OnErr}
 use Rattle.resource_lock.specs.declared.ids.WorkerId.{WorkerId}
 use Rattle.lock_transforms.specs.declared.entries.Closed.{Closed}
@@ -9,7 +9,6 @@ use Rattle.coordination.specs.Attempts.{Cause, Making}
 use Rattle.coordination.specs.Calls.{AskedInVain, HasLooked}
 use Rattle.coordination.specs.Decisions.{CouldNotStep, HasDecided}
 use Rattle.coordination.specs.Passes.{PassView}
-use Rattle.coordination.specs.Shown.{ShowsTheSame}
 use Rattle.coordination.specs.declared.decisions.Decided.{Decided}
 use Rattle.coordination.specs.declared.halts.Halt.{Halt}
 use Rattle.coordination.specs.declared.halts.Halt.TheVariants.{NoMemory, Stopped}
@@ -25,7 +24,7 @@ use Rattle.build_workers.specs.Site.{SiteView}
 use Rattle.build_workers.specs.Steps.{HasRunItem, MovesPass, Steps}
 use Rattle.build_workers.specs.WorkerView.{IsOf, WorkerView}
 use Rattle.build_workers.proofs.Keeping.{closes_then, finished_closes, in_vain_closes, looked_closes}
-use Rattle.build_workers.proofs.Stepping.{closes_nothing, moved_at, step_closed, step_failed, step_moved, step_then, step_unclosed}
+use Rattle.build_workers.proofs.Stepping.{moved_at, step_closed, step_failed, step_unclosed}
 
 -- an answer that was given, or want of memory, or a stop, closes nothing
 pub vain_closes : {A : Type 0} {waits : WorkerId → BookView → Type 0} {old new : Sight} (r : Result A Halt) → (r ≡ Err NoMemory → HasLooked old new) → ((by : WorkerId) → r ≡ Err (Stopped by) → AskedInVain waits by old new)
@@ -81,29 +80,3 @@ module _ (s : SiteView) (old : WorkerView) (of : IsOf s old) where
         broke : MayHaveClosed d mid.pass.sight new.pass.sight → Steps s old new false
         broke (inl still) = step_unclosed d of ran moves (since still)
         broke (inr closed) = step_failed (step_closed d of ran moves (since closed))
-
-  -- nothing was run, and its pass alone went on
-  module _ {mid new : WorkerView} (first : Steps s old mid true) (moves : MovesPass mid new) where
-    pub only_decided : {A E : Type 0} (Follows : A → Sight → Type 0) (r : Result A E) → ShowsTheSame old.pass.sight mid.pass.sight → IfOk r (λ x. Follows x mid.pass.sight) → IfOk r (λ x. HasRunBefore s old new ShowsTheSame (Follows x))
-    only_decided Follows (Ok x) shows follows = record {
-      between = mid.pass.sight;
-      step = step_then first (step_moved true first.of (moved_at mid.pass.sight moves) (closes_nothing mid.pass.sight));
-      shows = shows;
-      follows = follows;
-    }
-    only_decided Follows (Err e) shows follows = tt
-
-    pub only_broke_off : {A E : Type 0} (r : Result A E) → OnErr r (HasClosed [] mid.pass.sight new.pass.sight) → OnErr r (Steps s old new false)
-    only_broke_off (Ok x) closed = tt
-    only_broke_off (Err e) closed = step_then first (step_moved false first.of moves closed)
-
-  -- behind a claim
-  module _ {mid : WorkerView} (new : WorkerView) (first : Steps s old mid true) where
-    pub claimed_before : {A E : Type 0} (Shows : Sight → Sight → Type 0) (Follows : A → Sight → Type 0) (r : Result A E) → ((between : Sight) → Shows mid.pass.sight between → ShowsTheSame old.pass.sight between)
-        → IfOk r (λ x. HasRunBefore s mid new Shows (Follows x)) → IfOk r (λ x. HasRunBefore s old new ShowsTheSame (Follows x))
-    claimed_before Shows Follows (Ok x) again k = record { between = k.between; step = step_then first k.step; shows = again k.between k.shows; follows = k.follows }
-    claimed_before Shows Follows (Err e) again k = tt
-
-    pub claimed_broke_off : {A E : Type 0} (r : Result A E) → OnErr r (Steps s mid new false) → OnErr r (Steps s old new false)
-    claimed_broke_off (Ok x) k = tt
-    claimed_broke_off (Err e) k = step_then first k

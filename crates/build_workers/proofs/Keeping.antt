@@ -24,8 +24,14 @@ use Rattle.lock_journal.proofs.lemmas.Growing.{closed_by-push}
 use Rattle.coordination.specs.Agrees.{Finds}
 use Rattle.coordination.specs.Attempts.{Cause, Making}
 use Rattle.coordination.specs.Calls.{AskedInVain, HasFailed, HasFinished, HasLooked, HasStopped, IsAnswered, WasStopped}
+use Rattle.coordination.specs.Decisions.{HasDecided, IsToWaitIn}
+use Rattle.coordination.specs.declared.decisions.Decided.{Decided}
+use Rattle.coordination.specs.declared.decisions.Decided.TheVariants as decided
 use Rattle.coordination.specs.declared.halts.Halt.{Halt}
 use Rattle.coordination.specs.declared.rule.Sight.{Sight}
+use Rattle.async_tracker.specs.WorkSteps.{kind_of_work}
+use Rattle.async_tracker.specs.declared.work_steps.WorkStep.{WorkStep}
+use Rattle.async_tracker.specs.declared.work_steps.WorkStep.TheVariants as steps
 use Rattle.build_workers.specs.Kept.{HasClosed, Keeps}
 use Rattle.build_workers.specs.Units.{given}
 
@@ -92,6 +98,42 @@ failed_closes {kind} {fails} {old} {new} f =
           ∙ (ap (λ ds. ds ++ closed_at w e) f.found.agrees.closings
           ∙ ap (λ ds. closed_by w old.seen.history ++ ds) (own_closes w e refl))));
     }
+
+-- no step of what is next closes a unit
+work_closes : {makes : Making} {old new : Sight} (step : WorkStep) → HasFinished (kind_of_work step) makes old new → HasClosed [] old new
+work_closes (steps.Start t) f = finished_closes f
+work_closes (steps.Skip t) f = finished_closes f
+work_closes (steps.Claim u) f = finished_closes f
+work_closes (steps.Resume a) f = finished_closes f
+work_closes (steps.Fetch u) f = finished_closes f
+work_closes (steps.Submit a) f = finished_closes f
+work_closes (steps.Park a) f = finished_closes f
+work_closes (steps.End t) f = finished_closes f
+
+-- nor one that is to be run again
+waiting_closes : {A X : Type 0} {answers : WorkerId → BookView → A → Type 0} {step_of : A → Option X} {retries : X → Cause} {a : A} {old new : Sight} → IsToWaitIn answers step_of retries old new a → HasClosed [] old new
+waiting_closes {old = old} {new} k = record {
+  worker = ap (λ (s : Sight). s.worker) k.sight;
+  graph = ap (λ (s : Sight). s.seen.graph) k.sight ∙ (k.graph ∙ k.found.agrees.graph);
+  closed =
+      ap (λ (s : Sight). closed_by old.worker s.seen.history) k.sight
+      ∙ (ap (closed_by old.worker) k.unchanged.history
+      ∙ (k.found.agrees.closings ∙ sym (append-nil (closed_by old.worker old.seen.history))));
+}
+
+-- what was decided closes nothing
+pub decided_closes : {A : Type 0} {answers : WorkerId → BookView → A → Type 0} {step_of : A → Option WorkStep} {makes : WorkStep → Making} {fails retries : WorkStep → Cause} {old new : Sight} (d : Decided A)
+    → HasDecided answers step_of kind_of_work makes fails retries old new d → HasClosed [] old new
+decided_closes (decided.Answered a) h = answered_closes h.0
+decided_closes (decided.Entered a true) h = work_closes h.step h.finished
+decided_closes (decided.Entered a false) h = failed_closes h.failed
+decided_closes (decided.Waiting a) h = waiting_closes h
+
+-- nor does a decision that came to nothing
+pub deciding_closes : {A : Type 0} {answers : WorkerId → BookView → A → Type 0} {step_of : A → Option WorkStep} {makes : WorkStep → Making} {fails retries : WorkStep → Cause} {old new : Sight} (r : Result (Decided A) Halt)
+    → IfOk r (HasDecided answers step_of kind_of_work makes fails retries old new) → OnErr r (HasClosed [] old new) → HasClosed [] old new
+deciding_closes (Ok d) done still = decided_closes d done
+deciding_closes (Err e) done still = still
 
 -- one after the other
 pub closes_then : {ds es : List Closed} {a b c : Sight} → HasClosed ds a b → HasClosed es b c → HasClosed (ds ++ es) a c

@@ -10,8 +10,6 @@ pub mod WorkerView
 pub mod Steps
 pub mod Points
 pub mod Worked
-pub mod Hands
-pub mod Tickets
 pub mod Helping
 pub mod RunDesks
 pub mod RunFailing

@@ -1,43 +1,44 @@
 //! An idle worker: it does what is next until all tasks have ended.
 ghost use Rattle.std.specs.Prelude.{IfOk, OnOk, is_ok, true};
+ghost use Rattle.async_tracker.specs.declared.next_work.NextWork.TheVariants as next;
 ghost use Rattle.coordination.specs.Holds.{HoldsNothing};
 ghost use Rattle.build_workers.specs.Choices.{HasBegun};
 ghost use Rattle.build_workers.specs.Points.{HasFinishedWork};
 ghost use Rattle.build_workers.specs.Steps.{Steps};
 ghost use Rattle.build_workers.specs.WorkerView.{IsOf};
 
-use crate::items::help_if_found;
+use crate::items::{decide, run_and_close};
 use crate::run_types::RunTypes;
 use crate::site::Site;
 use crate::tasks::run_task;
 use crate::worker::Worker;
-use async_tracker::{WhatIsNext, choice_of, take_next};
+use async_tracker::{NextWork, TakeNextWork, next_work_of};
 use coordination::Halt;
-use worker_choices::Choice;
 
-// Chooses what is next, and begins it: a task that is next is skipped or started at once.
-fn choose<T: RunTypes>(site: &Site<'_, '_, T>, worker: &mut Worker<T>) -> Result<Choice, Halt>
+// Chooses what is next, and begins it: the lowest queued item is claimed, and a task that is next is skipped or started, at once.
+fn choose<T: RunTypes>(site: &Site<'_, '_, T>, worker: &mut Worker<T>) -> Result<NextWork, Halt>
     requires of { IsOf site.now worker.old }
     requires rests { HoldsNothing worker.old.pass.sight }
     ensures step { Steps site.now worker.old worker.new true }
     ensures begun { IfOk result (HasBegun worker.new.pass.sight) }
 {
-    take_next(site.rt, site.service, &mut worker.pass)
+    let decided = decide(site, worker, &TakeNextWork)?;
+    Ok(next_work_of(decided))
 }
 
-// Runs an item, if there is one, and begins what is next.
-fn help_and_choose<T: RunTypes>(
+// Runs an item that the worker has claimed, and begins what is next.
+fn run_and_choose<T: RunTypes>(
     site: &Site<'_, '_, T>,
     worker: &mut Worker<T>,
-) -> Result<Choice, Halt>
+    unit: u32,
+) -> Result<NextWork, Halt>
     requires of { IsOf site.now worker.old }
-    requires rests { HoldsNothing worker.old.pass.sight }
+    requires begun { HasBegun worker.old.pass.sight (next.Claim unit) }
     ensures step { Steps site.now worker.old worker.new (is_ok result) }
     ensures begun { IfOk result (HasBegun worker.new.pass.sight) }
 {
-    let unit = worker.next_unit(site.rt);
-    let decided = help_if_found(site, worker, unit, &WhatIsNext)?;
-    Ok(choice_of(decided))
+    let decided = run_and_close(site, worker, unit, &TakeNextWork)?;
+    Ok(next_work_of(decided))
 }
 
 // Carries out what an idle worker has begun, and begins what is next. Where it has skipped a task or finishes there is nothing left
@@ -45,21 +46,21 @@ fn help_and_choose<T: RunTypes>(
 fn carry_out<T: RunTypes>(
     site: &Site<'_, '_, T>,
     worker: &mut Worker<T>,
-    choice: Choice,
-) -> Result<Choice, Halt>
+    next: NextWork,
+) -> Result<NextWork, Halt>
     requires of { IsOf site.now worker.old }
-    requires begun { HasBegun worker.old.pass.sight choice }
+    requires begun { HasBegun worker.old.pass.sight next }
     ensures step { Steps site.now worker.old worker.new (is_ok result) }
     ensures begun { IfOk result (HasBegun worker.new.pass.sight) }
 {
-    match choice {
-        Choice::Pop => help_and_choose(site, worker),
-        Choice::Start(task) => run_task(site, worker, task),
-        Choice::Skip(_) | Choice::Finish => choose(site, worker),
+    match next {
+        NextWork::Claim(unit) => run_and_choose(site, worker, unit),
+        NextWork::Start(task) => run_task(site, worker, task),
+        NextWork::Skip(_) | NextWork::Beside | NextWork::Finish => choose(site, worker),
     }
 }
 
-/// Works until all tasks have ended: pops tickets and claims their items, skips tasks and runs tasks.
+/// Works until all tasks have ended: claims and runs items, skips tasks and runs tasks.
 ///
 /// The worker has nothing then. It fails for want of memory, and where the service was stopped.
 pub(crate) fn work_to_the_end<T: RunTypes>(
@@ -74,8 +75,8 @@ pub(crate) fn work_to_the_end<T: RunTypes>(
     let mut begun = choose(site, worker);
     for _ in site.rt.forever() {
         match begun {
-            Ok(Choice::Finish) => return Ok(()),
-            Ok(choice) => begun = carry_out(site, worker, choice),
+            Ok(NextWork::Finish) => return Ok(()),
+            Ok(next) => begun = carry_out(site, worker, next),
             Err(halt) => return Err(halt),
         }
     }

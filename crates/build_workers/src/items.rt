@@ -1,24 +1,24 @@
-//! An item that a worker claims, runs and closes.
-ghost use Rattle.std.specs.Prelude.{◌≡◌, ◌≢◌, ◌∷◌, [], Contains, IfOk, Ok, OnErr, OnOk, false, true};
+//! An item that a worker has claimed: it is run and closed, and what is next is decided.
+ghost use Rattle.std.specs.Prelude.{◌≡◌, ◌≢◌, ◌∷◌, [], Contains, IfOk, OnErr, OnOk, false, true};
 ghost use Rattle.item_actions.specs.declared.outcomes.Outcome.TheVariants as outcomes;
+ghost use Rattle.resource_lock.specs.Fits.{Fits};
 ghost use Rattle.resource_lock.specs.declared.marks.MarkId.TheVariants as ids;
 ghost use Rattle.coordination.specs.Decisions.{HasDecided};
 ghost use Rattle.coordination.specs.Offered.{AsTold};
-ghost use Rattle.coordination.specs.Shown.{ShowsTheSame, claimed_shown, lease_shown};
-ghost use Rattle.async_tracker.specs.Shows.{IsItemHere, ShowsClaimed, ShowsClosed};
+ghost use Rattle.coordination.specs.Planned.{TellsOwn};
+ghost use Rattle.coordination.specs.Shown.{claimed_shown, lease_shown};
+ghost use Rattle.async_tracker.specs.Shows.{IsItemHere, ShowsClosed};
 ghost use Rattle.build_workers.specs.Helping.{HasClosedBefore, HasRunBefore, MayHaveClosed};
 ghost use Rattle.build_workers.specs.Kept.{HasClosed};
-ghost use Rattle.build_workers.specs.Points.{CanHelp};
 ghost use Rattle.build_workers.specs.Site.{IsAt};
 ghost use Rattle.build_workers.specs.Steps.{HasRunItem, MovesPass, Steps};
-ghost use Rattle.build_workers.specs.Tickets.{TicketsTell};
 ghost use Rattle.build_workers.specs.WorkerView.{IsOf};
 
 use crate::run_types::RunTypes;
 use crate::site::Site;
 use crate::spares::stop_spare;
 use crate::worker::Worker;
-use async_tracker::{claim, close, close_then, closing_undoes_claiming};
+use async_tracker::{close, close_then};
 use coordination::{Decided, Decision, Halt, Pass};
 use daemon_desk::Desk;
 use daemon_requirements::Linked;
@@ -42,6 +42,7 @@ fn run_claimed<T: RunTypes>(
     requires item { IsItemHere site.now.graph unit }
     requires claimed { Contains (claimed_shown worker.old.pass.sight) (ids.Unit unit) }
     requires lease { lease_shown worker.old.pass.sight ≡ true }
+    ensures fits { Fits site.now.graph }
     ensures unit { result.closed.unit ≡ unit }
     ensures ran { HasRunItem site.now.units worker.old worker.new result.closed }
 {
@@ -69,25 +70,8 @@ fn run_claimed<T: RunTypes>(
     }
 }
 
-// Claims an item. False says that it isn't queued any more.
-fn claim_item<T: RunTypes>(
-    site: &Site<'_, '_, T>,
-    worker: &mut Worker<T>,
-    unit: u32,
-) -> Result<bool, Halt>
-    requires of { IsOf site.now worker.old }
-    requires item { IsItemHere site.now.graph unit }
-    requires helps { CanHelp worker.old.pass.sight }
-    ensures moves { MovesPass worker.old worker.new }
-    ensures closed { HasClosed [] worker.old.pass.sight worker.new.pass.sight }
-    ensures shows { result ≡ Ok true → ShowsClaimed unit worker.old.pass.sight worker.new.pass.sight }
-    ensures kept { result ≢ Ok true → ShowsTheSame worker.old.pass.sight worker.new.pass.sight }
-{
-    claim(site.rt, site.service, &mut worker.pass, unit)
-}
-
-// Decides what is next.
-fn decide<T: RunTypes, Q: Decision>(
+/// Decides what is next.
+pub(crate) fn decide<T: RunTypes, Q: Decision>(
     site: &Site<'_, '_, T>,
     worker: &mut Worker<T>,
     next: &Q,
@@ -95,8 +79,9 @@ fn decide<T: RunTypes, Q: Decision>(
 where
     Q::Answer: Drop,
     requires { worker.old.pass.service ≡ site.now.service.service }
+    ensures fits { Fits site.now.graph }
     ensures moves { MovesPass worker.old worker.new }
-    ensures decided { IfOk result (HasDecided (AsTold TicketsTell (Q.answers next.now)) (Q.step_of next.now) Q.Step.kind_of Q.Step.makes Q.Step.fails_on
+    ensures decided { IfOk result (HasDecided (AsTold TellsOwn (Q.answers next.now)) (Q.step_of next.now) Q.Step.kind_of Q.Step.makes Q.Step.fails_on
         Q.Step.retries_on worker.old.pass.sight worker.new.pass.sight) }
     ensures closed { OnErr result (HasClosed [] worker.old.pass.sight worker.new.pass.sight) }
 {
@@ -167,7 +152,7 @@ where
     requires lease { lease_shown worker.old.pass.sight ≡ true }
     requires outcome { closed.outcome ≢ outcomes.Skipped }
     ensures moves { MovesPass worker.old worker.new }
-    ensures decided { IfOk result (λ decided. HasClosedBefore closed worker.old.pass.sight (λ s. HasDecided (AsTold TicketsTell (Q.answers next.now))
+    ensures decided { IfOk result (λ decided. HasClosedBefore closed worker.old.pass.sight (λ s. HasDecided (AsTold TellsOwn (Q.answers next.now))
         (Q.step_of next.now) Q.Step.kind_of Q.Step.makes Q.Step.fails_on Q.Step.retries_on s worker.new.pass.sight decided)) }
     ensures closed { OnErr result (MayHaveClosed closed worker.old.pass.sight worker.new.pass.sight) }
 {
@@ -193,7 +178,7 @@ where
     requires lease { lease_shown worker.old.pass.sight ≡ true }
     requires outcome { ran.closed.outcome ≢ outcomes.Skipped }
     ensures moves { MovesPass worker.old worker.new }
-    ensures decided { IfOk result (λ decided. HasClosedBefore ran.closed worker.old.pass.sight (λ s. HasDecided (AsTold TicketsTell (Q.answers next.now))
+    ensures decided { IfOk result (λ decided. HasClosedBefore ran.closed worker.old.pass.sight (λ s. HasDecided (AsTold TellsOwn (Q.answers next.now))
         (Q.step_of next.now) Q.Step.kind_of Q.Step.makes Q.Step.fails_on Q.Step.retries_on s worker.new.pass.sight decided)) }
     ensures closed { OnErr result (MayHaveClosed ran.closed worker.old.pass.sight worker.new.pass.sight) }
 {
@@ -207,8 +192,10 @@ where
     }
 }
 
-// Runs an item that the worker has claimed, closes it with what it gives, and decides what is next.
-fn run_and_close<T: RunTypes, Q: Decision>(
+/// Runs an item that the worker has claimed, closes it with what it gives, and decides what is next.
+///
+/// It fails for want of memory, and where the service was stopped.
+pub(crate) fn run_and_close<T: RunTypes, Q: Decision>(
     site: &Site<'_, '_, T>,
     worker: &mut Worker<T>,
     unit: u32,
@@ -220,65 +207,12 @@ where
     requires item { IsItemHere site.now.graph unit }
     requires claimed { Contains (claimed_shown worker.old.pass.sight) (ids.Unit unit) }
     requires lease { lease_shown worker.old.pass.sight ≡ true }
+    ensures fits { Fits site.now.graph }
     ensures ran { IfOk result (λ decided. HasRunBefore site.now worker.old worker.new (ShowsClosed unit)
-        (λ s. HasDecided (AsTold TicketsTell (Q.answers next.now))
+        (λ s. HasDecided (AsTold TellsOwn (Q.answers next.now))
         (Q.step_of next.now) Q.Step.kind_of Q.Step.makes Q.Step.fails_on Q.Step.retries_on s worker.new.pass.sight decided)) }
     ensures broken_off { OnErr result (Steps site.now worker.old worker.new false) }
 {
     let ran = run_claimed(site, worker, unit);
     close_and_decide(site, worker, ran, next)
-}
-
-// Claims an item, runs it and closes it, unless another worker was faster, and decides what is next.
-//
-// Behind the item the pass shows what it showed. It fails for want of memory, and where the service was stopped.
-fn help<T: RunTypes, Q: Decision>(
-    site: &Site<'_, '_, T>,
-    worker: &mut Worker<T>,
-    unit: u32,
-    next: &Q,
-) -> Result<Decided<Q::Answer>, Halt>
-where
-    Q::Answer: Drop,
-    requires of { IsOf site.now worker.old }
-    requires item { IsItemHere site.now.graph unit }
-    requires helps { CanHelp worker.old.pass.sight }
-    ensures helped { IfOk result (λ decided. HasRunBefore site.now worker.old worker.new ShowsTheSame
-        (λ s. HasDecided (AsTold TicketsTell (Q.answers next.now))
-        (Q.step_of next.now) Q.Step.kind_of Q.Step.makes Q.Step.fails_on Q.Step.retries_on s worker.new.pass.sight decided)) }
-    ensures broken_off { OnErr result (Steps site.now worker.old worker.new false) }
-{
-    closing_undoes_claiming();
-    // A claim waits for a lease in the rare case that another worker took the last one between the two holds, until the item is claimed
-    // by another.
-    if claim_item(site, worker, unit)? {
-        run_and_close(site, worker, unit, next)
-    } else {
-        decide(site, worker, next)
-    }
-}
-
-/// Claims, runs and closes an item whose ticket was taken, or that is a unit of the worker's own, and decides what is next. Where there is
-/// none, and where the number is no item's, it only decides.
-///
-/// Behind the item the pass shows what it showed. It fails for want of memory, and where the service was stopped.
-pub(crate) fn help_if_found<T: RunTypes, Q: Decision>(
-    site: &Site<'_, '_, T>,
-    worker: &mut Worker<T>,
-    unit: Option<u32>,
-    next: &Q,
-) -> Result<Decided<Q::Answer>, Halt>
-where
-    Q::Answer: Drop,
-    requires of { IsOf site.now worker.old }
-    requires helps { CanHelp worker.old.pass.sight }
-    ensures helped { IfOk result (λ decided. HasRunBefore site.now worker.old worker.new ShowsTheSame
-        (λ s. HasDecided (AsTold TicketsTell (Q.answers next.now))
-        (Q.step_of next.now) Q.Step.kind_of Q.Step.makes Q.Step.fails_on Q.Step.retries_on s worker.new.pass.sight decided)) }
-    ensures broken_off { OnErr result (Steps site.now worker.old worker.new false) }
-{
-    match unit {
-        Some(unit) if site.is_item(unit) => help(site, worker, unit, next),
-        Some(_) | None => decide(site, worker, next),
-    }
 }

@@ -1,15 +1,12 @@
 //! What a worker has beside its pass and its desk.
 ghost use Rattle.std.specs.Prelude.{◌≡◌, IfSome, Some, is_some};
 
-use crate::hands::Hand;
 use coordination::Pass;
 use run_watch::Watcher;
 
 /// What a worker has beside its pass and its desk.
 #[derive(Drop)]
 pub struct Kit {
-    /// Its hand at the tickets.
-    pub hand: Hand,
     /// What it looks with, where the run is watched.
     pub watcher: Option<Watcher>,
 }
@@ -18,7 +15,6 @@ impl Kit {
     /// Looks, having learnt from the pass that has closed the unit, and notes what is seen, where the run is watched.
     pub fn watch(&mut self, pass: &Pass, unit: u32)
         requires { IfSome self.old.watcher (λ w. pass.now.service.ledger ≡ Some w) }
-        ensures hand { self.new.hand ≡ self.old.hand }
         ensures watcher { self.new.watcher ≡ self.old.watcher }
     {
         if let Some(watcher) = &mut self.watcher {
@@ -37,7 +33,7 @@ impl Kit {
     pub fn into_watcher(self) -> Option<Watcher>
         ensures { result ≡ self.watcher }
     {
-        let Kit { hand: _, watcher } = self;
+        let Kit { watcher } = self;
         watcher
     }
 }

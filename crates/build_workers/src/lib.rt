@@ -3,13 +3,11 @@
 #![tactic(auto)]
 
 mod fetching;
-mod hands;
 mod idle;
 mod items;
 mod kits;
 mod options;
 mod parked;
-mod queue;
 mod run_end;
 mod run_types;
 mod site;
@@ -18,10 +16,8 @@ mod tasks;
 mod worker;
 mod working;
 
-pub use hands::Hand;
 pub use kits::Kit;
 pub use options::RunOptions;
-pub use queue::{Queue, QueuePlace};
 pub use run_end::RunEnd;
 pub use run_types::{RunTypes, Types};
 pub use site::{RunService, Site};

@@ -9,9 +9,8 @@ ghost use Rattle.item_work.specs.Sends.{MayAskFor};
 ghost use Rattle.plan_reader.specs.PlanView.{work_view};
 ghost use Rattle.plan_reader.specs.Units.{fetch_unit, item_unit};
 
-use crate::queue::QueuePlace;
 use crate::run_types::RunTypes;
-use coordination::ShownService;
+use coordination::{QueuedUnits, ShownService};
 use daemon_desk::Desk;
 use daemon_requirements::Work;
 use item_actions::Text;
@@ -23,7 +22,7 @@ use std::marker::Model;
 use std::ops::Range;
 
 /// The service of a run.
-pub type RunService<'a, R> = ShownService<QueuePlace, &'a R>;
+pub type RunService<'a, R> = ShownService<QueuedUnits, &'a R>;
 
 /// What the workers of a run share. The units are those of the graph, and each may ask the pool for what it asks for.
 #[derive(Drop)]
@@ -91,14 +90,6 @@ impl<'a, 'r, T: RunTypes> Site<'a, 'r, T> {
             unreachable!()
         };
         file
-    }
-
-    /// Whether a number is an item's.
-    pub fn is_item(&self, unit: u32) -> bool
-        ensures { result ≡ true → IsItemHere self.now.graph unit }
-    {
-        // By the units alone: the graph would have to find the unit's action first.
-        matches!(self.units.get(unit as usize), Some(UnitWork::Item(_)))
     }
 
     /// An item, by its number.

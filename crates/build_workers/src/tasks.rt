@@ -14,10 +14,9 @@ use crate::parked::wait_for_items;
 use crate::run_types::RunTypes;
 use crate::site::Site;
 use crate::worker::Worker;
-use async_tracker::{Parked, end_and_take_next, submit_and_park};
+use async_tracker::{NextWork, Parked, TakeNextWork, end_then, next_work_of, submit_and_park};
 use coordination::Halt;
 use std::ops::Range;
-use worker_choices::Choice;
 
 // Reads the file that an action fetches, if it has a fetch.
 fn fetch_first<T: RunTypes>(
@@ -41,10 +40,7 @@ fn fetch_first<T: RunTypes>(
     }
 }
 
-// Queues the items of an action of the worker's task and parks, at once, and pushes their tickets.
-//
-// No ticket is lost that is pushed behind the entries: a worker that has parked comes to the state lock again at once, to ask what is
-// next, and sees what is queued then.
+// Queues the items of an action of the worker's task and parks, in one hold of the state lock.
 fn queue_items<T: RunTypes>(
     site: &Site<'_, '_, T>,
     worker: &mut Worker<T>,
@@ -64,11 +60,7 @@ fn queue_items<T: RunTypes>(
     ensures shows { OnOk result (ShowsParked (action_of site.now.graph action).retention
         (lock_with site.now.graph action) action worker.old.pass.sight worker.new.pass.sight) }
 {
-    let found = site.action_of(task, action);
-    let parked = submit_and_park(site.rt, site.service, &mut worker.pass, action)?;
-    let first = found.first_unit + u32::from(found.fetch);
-    worker.kit.hand.queue(site.rt, first..first + found.items);
-    Ok(parked)
+    submit_and_park(site.rt, site.service, &mut worker.pass, action)
 }
 
 // Runs an action of the worker's task: its fetch, if it has one, and its items, which other workers
@@ -120,14 +112,15 @@ fn end<T: RunTypes>(
     site: &Site<'_, '_, T>,
     worker: &mut Worker<T>,
     task: u32,
-) -> Result<Choice, Halt>
+) -> Result<NextWork, Halt>
     requires of { IsOf site.now worker.old }
     requires task { task < length site.now.graph.tasks }
     requires in_task { IsInTask task worker.old.pass.sight }
     ensures step { Steps site.now worker.old worker.new true }
     ensures begun { IfOk result (HasBegun worker.new.pass.sight) }
 {
-    end_and_take_next(site.rt, site.service, &mut worker.pass, task)
+    let decided = end_then(site.rt, site.service, &mut worker.pass, task, &TakeNextWork)?;
+    Ok(next_work_of(decided))
 }
 
 /// Runs a task that the worker has started to its end, and begins what is next.
@@ -137,7 +130,7 @@ pub(crate) fn run_task<T: RunTypes>(
     site: &Site<'_, '_, T>,
     worker: &mut Worker<T>,
     task: u32,
-) -> Result<Choice, Halt>
+) -> Result<NextWork, Halt>
     requires of { IsOf site.now worker.old }
     requires task { task < length site.now.graph.tasks }
     requires runs { RunsTask task worker.old.pass.sight }

@@ -44,18 +44,6 @@ impl<T: RunTypes> Worker<T> {
         self.pass.promise_to_come_again();
     }
 
-    /// Pops a ticket; where there is none, takes the first unit of its own.
-    pub fn next_unit(&mut self, rt: &T::Runtime) -> Option<u32>
-        ensures { self.new ≡ self.old }
-    {
-        self.kit.hand.next_unit(rt)
-    }
-
-    /// Whether it has units of its own.
-    pub fn has_own_units(&self) -> bool {
-        self.kit.hand.has_own()
-    }
-
     /// Whether it looks at the history while it works.
     pub fn is_watched(&self) -> bool {
         self.kit.is_watched()

@@ -1,18 +1,29 @@
-use Rattle.std.proofs.Common.{true}
-use Rattle.coordination.specs.Holds.{HoldsNothing}
-use Rattle.build_workers.proofs.Choosing.{choice_closes, has_begun}
-use Rattle.build_workers.proofs.Stepping.{is_of, step_from, step_moved, to_fields, with_pass}
+use Rattle.std.proofs.Common.{subst, sym, true}
+use Rattle.resource_lock.specs.Fits.{Fits}
+use Rattle.coordination.specs.Planned.{TellsOwn}
+use Rattle.async_tracker.proofs.lemmas.NextWork.{DecidesWork}
+use Rattle.build_workers.specs.Choices.{HasBegun}
+use Rattle.build_workers.proofs.Choosing.{begun}
+use Rattle.build_workers.proofs.Keeping.{deciding_closes}
+use Rattle.build_workers.proofs.Stepping.{step_moved}
+use Rattle.build_workers.proofs.lemmas.Results.{if_ok}
 use Rattle.build_workers.proofs.idle.choose.Goals as goal
 
-pub take_next-requires-clause-rests : goal.take_next-requires-clause-rests
-take_next-requires-clause-rests g c = to_fields HoldsNothing c.worker.view_is c.requires.rests
+pub returns-in_err-decided-clause-step : goal.returns-in_err-decided-clause-step
+returns-in_err-decided-clause-step g c =
+    let e = c.decide.ensures in
+    step_moved true c.requires.of e.moves (deciding_closes c.decide.result e.decided e.closed)
 
 pub returns-clause-step : goal.returns-clause-step
 returns-clause-step g c =
-    let e = c.take_next.ensures in
-    step_from c.worker.view_is (step_moved true (is_of c.worker.view_is c.requires.of) (with_pass e.service) (choice_closes c.worker.inside.pass.sight c.take_next.new.pass.sight c.take_next.result e.taken e.no_memory e.stopped))
+    let e = c.decide.ensures in
+    step_moved true c.requires.of e.moves (deciding_closes c.decide.result e.decided e.closed)
 
 pub returns-clause-begun : goal.returns-clause-begun
 returns-clause-begun g c =
-    let e = c.take_next.ensures in
-    has_begun c.worker.inside.pass.sight c.take_next.new.pass.sight c.take_next.result e.taken e.shows (to_fields HoldsNothing c.worker.view_is c.requires.rests)
+    let e = c.decide.ensures in
+    let d = c.in_ok-decided.decided in
+    let old = c.args.worker.now.pass.sight in
+    let new = c.decide.new.worker.pass.sight in
+    subst (HasBegun new) (sym c.next_work_of.ensures)
+    (begun old new d (if_ok (DecidesWork TellsOwn old new) c.decide.result d c.in_ok-decided.was e.decided) (subst Fits (sym c.requires.of.at.graph) e.fits) c.requires.rests)

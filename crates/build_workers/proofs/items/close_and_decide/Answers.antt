@@ -1,6 +1,6 @@
 use Rattle.coordination.specs.Decisions.{HasDecided}
 use Rattle.coordination.specs.Offered.{AsTold}
-use Rattle.build_workers.specs.Tickets.{TicketsTell}
+use Rattle.coordination.specs.Planned.{TellsOwn}
 use Rattle.build_workers.proofs.Helping.{closed_alone, closed_in_vain}
 use Rattle.build_workers.proofs.lemmas.Results.{of_ok}
 use Rattle.build_workers.proofs.Stepping.{moves_then}
@@ -15,7 +15,7 @@ returns-in_ok-close_alone-in_default-clause-decided g c =
     let X = g.Q.Step.Transform in
     let q = c.args.next.now in
     let alone = c.in_ok-close_alone-in_default in
-    closed_alone c.args.ran.closed c.args.worker.now.pass.sight (λ a x. HasDecided (AsTold TicketsTell (Q.Question.answers q)) (Q.Decision.step_of q) X.kind_of X.makes X.fails_on X.retries_on x c.decide.new.worker.pass.sight a) c.decide.result
+    closed_alone c.args.ran.closed c.args.worker.now.pass.sight (λ a x. HasDecided (AsTold TellsOwn (Q.Question.answers q)) (Q.Decision.step_of q) X.kind_of X.makes X.fails_on X.retries_on x c.decide.new.worker.pass.sight a) c.decide.result
     (of_ok c.close_alone.result alone.field-0 alone.was c.close_alone.ensures.closed) (of_ok c.close_alone.result alone.field-0 alone.was c.close_alone.ensures.shows) c.decide.ensures.decided
 
 pub returns-in_ok-close_alone-in_default-clause-closed : goal.returns-in_ok-close_alone-in_default-clause-closed

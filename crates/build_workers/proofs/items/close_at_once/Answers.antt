@@ -3,7 +3,7 @@ use Rattle.std.specs.Prelude.{Contains, IfOk, OnErr}
 use Rattle.resource_lock.specs.declared.marks.MarkId.TheVariants.{Unit as UnitOf}
 use Rattle.coordination.specs.Decisions.{HasDecided}
 use Rattle.coordination.specs.Offered.{AsTold, WaitsAsTold}
-use Rattle.build_workers.specs.Tickets.{TicketsTell}
+use Rattle.coordination.specs.Planned.{TellsOwn}
 use Rattle.coordination.specs.Shown.{claimed_shown}
 use Rattle.build_workers.specs.Helping.{HasClosedBefore, MayHaveClosed}
 use Rattle.build_workers.proofs.Helping.{closed_before, may_have_closed}
@@ -27,12 +27,12 @@ returns-clause-decided g c =
     let old = c.worker.inside.pass.sight in
     let new = c.close_then.new.pass.sight in
     let given =
-    closed_before closed old (AsTold TicketsTell (Q.Question.answers q)) (WaitsAsTold TicketsTell (Q.Question.waits_on q)) (Q.Decision.step_of q) X.kind_of X.makes X.fails_on X.retries_on
+    closed_before closed old (AsTold TellsOwn (Q.Question.answers q)) (WaitsAsTold TellsOwn (Q.Question.waits_on q)) (Q.Decision.step_of q) X.kind_of X.makes X.fails_on X.retries_on
     new c.close_then.result c.close_then.ensures.decided in
-    of_fields (λ s. IfOk c.match-close_then.result (λ a. HasClosedBefore closed s (λ x. HasDecided (AsTold TicketsTell (Q.Question.answers q)) (Q.Decision.step_of q) X.kind_of X.makes X.fails_on X.retries_on x new a))) c.worker.view_is (elim c.match-close_then.branch [
-      | in-Ok w ↦ subst (λ r. IfOk r (λ a. HasClosedBefore closed old (λ x. HasDecided (AsTold TicketsTell (Q.Question.answers q)) (Q.Decision.step_of q) X.kind_of X.makes X.fails_on X.retries_on x new a))) (sym w.result-is)
-          (if_ok (λ a. HasClosedBefore closed old (λ x. HasDecided (AsTold TicketsTell (Q.Question.answers q)) (Q.Decision.step_of q) X.kind_of X.makes X.fails_on X.retries_on x new a)) c.close_then.result w.in-Ok.decided w.in-Ok.is given)
-      | in-Err w ↦ subst (λ r. IfOk r (λ a. HasClosedBefore closed old (λ x. HasDecided (AsTold TicketsTell (Q.Question.answers q)) (Q.Decision.step_of q) X.kind_of X.makes X.fails_on X.retries_on x new a))) (sym w.result-is) tt
+    of_fields (λ s. IfOk c.match-close_then.result (λ a. HasClosedBefore closed s (λ x. HasDecided (AsTold TellsOwn (Q.Question.answers q)) (Q.Decision.step_of q) X.kind_of X.makes X.fails_on X.retries_on x new a))) c.worker.view_is (elim c.match-close_then.branch [
+      | in-Ok w ↦ subst (λ r. IfOk r (λ a. HasClosedBefore closed old (λ x. HasDecided (AsTold TellsOwn (Q.Question.answers q)) (Q.Decision.step_of q) X.kind_of X.makes X.fails_on X.retries_on x new a))) (sym w.result-is)
+          (if_ok (λ a. HasClosedBefore closed old (λ x. HasDecided (AsTold TellsOwn (Q.Question.answers q)) (Q.Decision.step_of q) X.kind_of X.makes X.fails_on X.retries_on x new a)) c.close_then.result w.in-Ok.decided w.in-Ok.is given)
+      | in-Err w ↦ subst (λ r. IfOk r (λ a. HasClosedBefore closed old (λ x. HasDecided (AsTold TellsOwn (Q.Question.answers q)) (Q.Decision.step_of q) X.kind_of X.makes X.fails_on X.retries_on x new a))) (sym w.result-is) tt
     ])
 
 pub returns-clause-closed : goal.returns-clause-closed
@@ -46,6 +46,6 @@ returns-clause-closed g c =
     of_fields (λ s. OnErr c.match-close_then.result (MayHaveClosed closed s new)) c.worker.view_is (elim c.match-close_then.branch [
       | in-Ok w ↦ subst (λ r. OnErr r (MayHaveClosed closed old new)) (sym w.result-is) tt
       | in-Err w ↦ subst (λ r. OnErr r (MayHaveClosed closed old new)) (sym w.result-is)
-          (may_have_closed closed old {answers = AsTold TicketsTell (Q.Question.answers q)} {waits = WaitsAsTold TicketsTell (Q.Question.waits_on q)} {step_of = Q.Decision.step_of q} {new = new} w.in-Err.halt
+          (may_have_closed closed old {answers = AsTold TellsOwn (Q.Question.answers q)} {waits = WaitsAsTold TellsOwn (Q.Question.waits_on q)} {step_of = Q.Decision.step_of q} {new = new} w.in-Err.halt
           (λ at. e.not_closed (w.in-Err.is ∙ ap Err at)) (λ at. e.no_memory (w.in-Err.is ∙ ap Err at)) (λ by at. e.stopped by (w.in-Err.is ∙ ap Err at)))
     ])
