@@ -12,7 +12,7 @@ ghost use Rattle.lock_transforms.specs.declared.entries.Kind.TheVariants as kind
 ghost use Rattle.coordination.specs.Agrees.{Finds};
 ghost use Rattle.coordination.specs.Decisions.{HasFailedIn, IsToWaitIn};
 ghost use Rattle.coordination.specs.Holds.{HoldsNothing};
-ghost use Rattle.coordination.specs.Offered.{AsTold, Telling};
+ghost use Rattle.coordination.specs.Offered.{AreTold, AsTold};
 ghost use Rattle.coordination.specs.Shown.{ShowsTheSame, claimed_shown, lease_shown};
 ghost use Rattle.coordination.specs.declared.rule.Sight.{Sight};
 ghost use Rattle.async_tracker.specs.NextWork.{IsNextParkedWorkIf, IsNextWorkIf, step_of_next, step_of_parked};
@@ -24,6 +24,8 @@ ghost use Rattle.async_tracker.specs.WorkSteps.{FailsAt, IsRefused, RetriesAt, k
 ghost use Rattle.async_tracker.specs.declared.next_work.NextWork.TheVariants as next;
 ghost use Rattle.async_tracker.specs.declared.next_work.ParkedWork.TheVariants as parked;
 ghost use Rattle.async_tracker.specs.declared.task_moves.TaskMove.TheVariants as moves;
+
+use coordination::Offers;
 
 /// After an item was claimed and closed the pass shows what it showed before. So a worker that waits
 /// for an action can claim the next item, or resume.
@@ -54,19 +56,19 @@ pub fn next_moves_are_possible()
 
 /// What `TakeNextWork` and `TakeParkedWork` decide is done in the book that it was decided of, whatever is offered: a claim, a start and a
 /// worker's going on neither fail nor wait. A skip doesn't wait either, and fails only where one of the task's marks can't be skipped.
-pub fn next_work_is_possible()
-    ensures claim { (tells : Telling) (old new : Sight) (u : ℕ) → Fits old.seen.graph → HoldsNothing old
-        → IsRefused (AsTold tells IsNextWorkIf) step_of_next (next.Claim u) old new → ⊥ }
-    ensures start { (tells : Telling) (old new : Sight) (t : ℕ) → HoldsNothing old
-        → IsRefused (AsTold tells IsNextWorkIf) step_of_next (next.Start t) old new → ⊥ }
-    ensures skip { (tells : Telling) (old new : Sight) (t : ℕ) → IsToWaitIn (AsTold tells IsNextWorkIf) step_of_next RetriesAt old new (next.Skip t) → ⊥ }
-    ensures skip_fails { (tells : Telling) (old new : Sight) (t : ℕ) → HoldsNothing old
-        → (f : HasFailedIn (AsTold tells IsNextWorkIf) step_of_next kind_of_work FailsAt old new (next.Skip t))
+pub fn next_work_is_possible<O: Offers>()
+    ensures claim { (old new : Sight) (u : ℕ) → Fits old.seen.graph → HoldsNothing old
+        → IsRefused (AsTold (AreTold O.tells) IsNextWorkIf) step_of_next (next.Claim u) old new → ⊥ }
+    ensures start { (old new : Sight) (t : ℕ) → HoldsNothing old
+        → IsRefused (AsTold (AreTold O.tells) IsNextWorkIf) step_of_next (next.Start t) old new → ⊥ }
+    ensures skip { (old new : Sight) (t : ℕ) → IsToWaitIn (AsTold (AreTold O.tells) IsNextWorkIf) step_of_next RetriesAt old new (next.Skip t) → ⊥ }
+    ensures skip_fails { (old new : Sight) (t : ℕ) → HoldsNothing old
+        → (f : HasFailedIn (AsTold (AreTold O.tells) IsNextWorkIf) step_of_next kind_of_work FailsAt old new (next.Skip t))
         → CannotSkip t f.failed.before.graph old.worker f.failed.before.state }
-    ensures parked_claim { (tells : Telling) (p : ParkedView) (old new : Sight) (u : ℕ) → Fits old.seen.graph
+    ensures parked_claim { (p : ParkedView) (old new : Sight) (u : ℕ) → Fits old.seen.graph
         → p.action < length old.seen.graph.actions → IsFree old → IsIdleOrParked old
-        → IsRefused (AsTold tells (IsNextParkedWorkIf p.action)) (step_of_parked p.action) (parked.Claim u) old new → ⊥ }
-    ensures resume { (tells : Telling) (p : ParkedView) (old new : Sight) (failed : Bool) → p.action < length old.seen.graph.actions
+        → IsRefused (AsTold (AreTold O.tells) (IsNextParkedWorkIf p.action)) (step_of_parked p.action) (parked.Claim u) old new → ⊥ }
+    ensures resume { (p : ParkedView) (old new : Sight) (failed : Bool) → p.action < length old.seen.graph.actions
         → IsParkedBy old p → IsFree old
-        → IsRefused (AsTold tells (IsNextParkedWorkIf p.action)) (step_of_parked p.action) (parked.Resume failed) old new → ⊥ }
+        → IsRefused (AsTold (AreTold O.tells) (IsNextParkedWorkIf p.action)) (step_of_parked p.action) (parked.Resume failed) old new → ⊥ }
 {}

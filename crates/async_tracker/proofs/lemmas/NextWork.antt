@@ -10,6 +10,7 @@ use Rattle.resource_lock.specs.declared.marks.Mark.TheVariants.{Queued}
 use Rattle.resource_lock.specs.declared.marks.MarkId.TheVariants.{Unit as UnitOf}
 use Rattle.ready_work.specs.Choices.{IsQueued}
 use Rattle.lock_transforms.specs.Allowed.{IsFixedList}
+use Rattle.lock_transforms.specs.declared.entries.Kind.{Kind}
 use Rattle.lock_journal.specs.BookView.{BookView}
 use Rattle.lock_journal.specs.Own.{is_unit}
 use Rattle.lock_journal.proofs.Queue.{queued_is_item}
@@ -98,21 +99,24 @@ free_resting rests = record {
   units = ap (list_any is_unit) rests.claimed;
 }
 
--- a step's entry, by the step that an answer has
-entered : {makes : WorkStep → Making} (step x : WorkStep) (old new : Sight) → Some step ≡ Some x → HasFinished (kind_of_work x) (makes x) old new → HasFinished (kind_of_work step) (makes step) old new
-entered {makes} step x old new is f = subst (λ (y : WorkStep). HasFinished (kind_of_work y) (makes y) old new) (sym (same_step step x is)) f
+-- the entry of a step
+abbrev Enters : WorkStep → Sight → Sight → Type 0
+Enters step old new = HasFinished (kind_of_work step) (IsFixedList (kind_of_work step)) old new
+
+-- by the step that an answer has
+entered : (step x : WorkStep) (old new : Sight) → Some step ≡ Some x → Enters x old new → Enters step old new
+entered step x old new is f = subst (λ (y : WorkStep). Enters y old new) (sym (same_step step x is)) f
 
 -- a unit that was queued where an entry was made is an item of the graph
-item_behind : {step : WorkStep} (u : ℕ) (old new : Sight) → Fits old.seen.graph → (f : HasFinished (kind_of_work step) (IsFixedList (kind_of_work step)) old new) → IsQueued f.before.graph f.before.state u → IsItemHere new.seen.graph u
+item_behind : {kind : Kind} {makes : Making} (u : ℕ) (old new : Sight) → Fits old.seen.graph → (f : HasFinished kind makes old new) → IsQueued f.before.graph f.before.state u → IsItemHere new.seen.graph u
 item_behind u old new fits f q =
     let book : BookView = f.before in
     let there = subst (λ (s : StateView). mark_of s (UnitOf u) ≡ Queued) f.found.sound.replays q.queued in
     let item : IsItemHere book.graph u = record { in_range = q.within; item = queued_is_item book.graph book.history u (fits_in old book fits f.found) f.found.sound.lawful there } in
     subst (λ (g : GraphView). IsItemHere g u) (sym (ap (λ (x : Sight). x.seen.graph) f.sight ∙ f.graph)) item
 
-claims_item : (step : WorkStep) (u : ℕ) (old new : Sight) → Fits old.seen.graph → Some (steps.Claim u) ≡ Some step
-    → (f : HasFinished (kind_of_work step) (IsFixedList (kind_of_work step)) old new) → IsQueued f.before.graph f.before.state u → HasClaimed u old new
-claims_item step u old new fits is f q = record { item = item_behind {step = step} u old new fits f q; shows = claimed_shows (entered {makes = λ x. IsFixedList (kind_of_work x)} (steps.Claim u) step old new is f) }
+claims_item : (step : WorkStep) (u : ℕ) (old new : Sight) → Fits old.seen.graph → Some (steps.Claim u) ≡ Some step → (f : Enters step old new) → IsQueued f.before.graph f.before.state u → HasClaimed u old new
+claims_item step u old new fits is f q = record { item = item_behind u old new fits f q; shows = claimed_shows (entered (steps.Claim u) step old new is f) }
 
 -- what an idle worker decides
 module _ (tells : Telling) (old new : Sight) where
@@ -156,8 +160,8 @@ module _ (tells : Telling) (old new : Sight) where
       let book : BookView = h.finished.before in
       claims_item h.step u old new fits h.is h.finished (idle_queued book.graph old.worker book.state h.answer.0 u h.answer.2)
   work_shows (decided.Entered next.Beside true) h fits rests = let none = h.is in absurd (cc)
-  work_shows (decided.Entered (next.Skip t) true) h fits rests = skipped_shows (entered {makes = λ x. IsFixedList (kind_of_work x)} (steps.Skip t) h.step old new h.is h.finished)
-  work_shows (decided.Entered (next.Start t) true) h fits rests = started_shows (entered {makes = λ x. IsFixedList (kind_of_work x)} (steps.Start t) h.step old new h.is h.finished) rests
+  work_shows (decided.Entered (next.Skip t) true) h fits rests = skipped_shows (entered (steps.Skip t) h.step old new h.is h.finished)
+  work_shows (decided.Entered (next.Start t) true) h fits rests = started_shows (entered (steps.Start t) h.step old new h.is h.finished) rests
   work_shows (decided.Entered next.Finish true) h fits rests = let none = h.is in absurd (cc)
   work_shows (decided.Entered (next.Claim u) false) h fits rests = absurd (claim_never u fits rests (inl h))
   work_shows (decided.Entered next.Beside false) h fits rests = let none = h.is in absurd (cc)
@@ -201,7 +205,7 @@ module _ (tells : Telling) (p : ParkedView) (old new : Sight) where
   parked_work_shows (decided.Answered (parked.Claim u)) h fits low by free waits = let none = h.1 in absurd (cc)
   parked_work_shows (decided.Answered parked.Beside) h fits low by free waits = answered_shows h.0
   parked_work_shows (decided.Entered (parked.Resume failed) true) h fits low by free waits =
-      resumed_shows free.lease (entered {makes = λ x. IsFixedList (kind_of_work x)} (steps.Resume p.action) h.step old new h.is h.finished)
+      resumed_shows free.lease (entered (steps.Resume p.action) h.step old new h.is h.finished)
   parked_work_shows (decided.Entered (parked.Claim u) true) h fits low by free waits =
       let book : BookView = h.finished.before in
       claims_item h.step u old new fits h.is h.finished (was_queued book.graph old.worker book.state h.answer.0 u (h.answer.2 (within book h.finished.found low)))
