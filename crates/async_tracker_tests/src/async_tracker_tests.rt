@@ -140,6 +140,32 @@ pub(crate) fn go_on<R: Wait>(
     }
 }
 
+/// Works the task up to its end, with items that end so. False says that a call answered otherwise than one expects.
+pub(crate) fn run_up_to_end<R: Wait>(
+    rt: &R,
+    service: &Coordination,
+    pass: &mut Pass,
+    first: Outcome,
+    second: Outcome,
+) -> Result<bool, Halt>
+    requires service { pass.old.service ≡ service.now.service }
+    requires graph { HasTwoItems pass.old.sight.seen.graph }
+    requires rests { HoldsNothing pass.old.sight }
+    requires first { first ≢ outcomes.Skipped }
+    requires second { second ≢ outcomes.Skipped }
+    ensures service { pass.new.service ≡ pass.old.service }
+    ensures ends { result ≡ Ok true → CanEnd pass.new.sight }
+{
+    let Some(parked) = wait_for_items(rt, service, pass)? else {
+        return Ok(false);
+    };
+    if !run_both(rt, service, pass, &parked, first, second)? {
+        drop(parked);
+        return Ok(false);
+    }
+    go_on(rt, service, pass, parked)
+}
+
 /// Works the whole task, whose items end so. False says that a call answered otherwise than one expects.
 pub(crate) fn run_task<R: Wait>(
     rt: &R,
@@ -155,15 +181,11 @@ pub(crate) fn run_task<R: Wait>(
     requires second { second ≢ outcomes.Skipped }
     ensures service { pass.new.service ≡ pass.old.service }
 {
-    let Some(parked) = wait_for_items(rt, service, pass)? else {
-        return Ok(false);
-    };
-    let ran = run_both(rt, service, pass, &parked, first, second)?;
-    if !go_on(rt, service, pass, parked)? {
+    if !run_up_to_end(rt, service, pass, first, second)? {
         return Ok(false);
     }
     end_task(rt, service, pass, 0)?;
-    Ok(ran)
+    Ok(true)
 }
 
 /// A service with two workers, one lock and one lease, the task with two items, and one that comes after it.
