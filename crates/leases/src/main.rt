@@ -12,11 +12,11 @@ use file_access::{AheadSource, OpenGate, StdSink};
 use item_actions::Text;
 use leases_cli::{DESKS, Status, leases};
 use std::alloc::{AllocError, AllocFailed, Global};
-use std::io;
 use std::io::{ErrorKind, Input};
 use std::process::ExitCode;
 use std::sync::Wait;
 use std::thread::Threads;
+use std::{io, mem};
 
 /// Why nothing could be begun.
 #[derive(Clone, Copy)]
@@ -82,7 +82,12 @@ fn run<T: Threads + Wait + Sync>(rt: &HostRuntime, threads: &T) -> Result<Status
     let ended = leases(
         threads, alloc, &words, &mut desks, &mut input, &OpenGate, &mut out,
     );
-    Ok(ended.status)
+    let status = ended.status;
+    // The process ends here, and the system takes back all that is left of its memory at once.
+    mem::forget(ended);
+    mem::forget(desks);
+    mem::forget(words);
+    Ok(status)
 }
 
 fn main(rt: HostRuntime) -> ExitCode {

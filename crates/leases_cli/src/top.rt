@@ -24,6 +24,7 @@ use item_actions::Text;
 use plan_reader::MAX_WORKERS;
 use ready_work::first_cycle_is_unique;
 use std::alloc::Global;
+use std::mem;
 use std::sync::Wait;
 use std::thread::Threads;
 
@@ -67,7 +68,12 @@ fn run<R: Threads + Wait + Sync, D: Desk + Send + Drop, G: Gate + Sync, O: Sink>
         watch: asked.watch,
     };
     match run_plan(rt, alloc, &plan, &options, desks, gate) {
-        Ok(end) => report_run(asked, &plan, end, out),
+        Ok(end) => {
+            let ended = report_run(asked, &plan, end, out);
+            // The program ends next, and its memory with it: to release a plan piece by piece takes a tenth of a run of small tasks.
+            mem::forget(plan);
+            ended
+        }
         Err(_) => without_run(alloc, Status::NoMemory),
     }
 }
