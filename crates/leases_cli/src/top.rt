@@ -120,7 +120,8 @@ fn perform<R: Threads + Wait + Sync, D: Desk + Send + Drop, I: Source, G: Gate +
 ///
 /// `run` reads the plan through the first desk; its thread i has desk i, and what each desk sent is what its thread closed. `worker`,
 /// `check` and `again` take their input from `input`. All that is written goes to `out`: the beginning of it at SinkFault, and nothing
-/// at NoMemory, but by a worker its replies up to then. NoMemory can come for any words, since reading them takes memory.
+/// at NoMemory, but by a worker its replies up to then. NoMemory can come for any words, since reading them takes memory. The memory of a plan
+/// that was run isn't released.
 pub fn leases<R: Threads + Wait + Sync, D: Desk + Send + Drop, I: Source, G: Gate + Sync, O: Sink>(
     rt: &R,
     alloc: Global,
