@@ -9,6 +9,7 @@ use lock_transforms::kinds::{
     Unblock,
 };
 use lock_transforms::{Closed, Disposition, Kind};
+use ready_work::ReadyWork;
 use resource_lock::{GraphAction, LockId, Retention, WorkerId};
 use std::alloc::{AllocError, Global};
 use std::process::Abort;
@@ -204,6 +205,21 @@ pub(crate) fn tell_the_same(one: &Book, other: &Book) -> bool {
         && one.state().leases_out() == other.state().leases_out()
 }
 
+// Whether a book, which followed each entry, tells what an index tells that is made anew of its graph and state.
+fn tells_what_is(alloc: Global, book: &Book) -> Result<bool, AllocError> {
+    let graph = book.graph();
+    let state = book.state();
+    let mut ready = ReadyWork::of(alloc, graph, state)?;
+    ready.keep_queued(alloc, graph, state)?;
+    Ok(
+        book.lowest_queued() == ready.first_queued(graph, state)
+            && book.first_open_unit(0) == ready.first_open_unit(0)
+            && book.first_open_unit(2) == ready.first_open_unit(2)
+            && book.lowest_to_skip() == ready.first_to_skip()
+            && book.lowest_to_start() == ready.first_to_start(state),
+    )
+}
+
 // Whether each unit has the same outcome in both, which keep all entries.
 fn have_the_same_outcomes(one: &Book, other: &Book) -> bool {
     if one.given() > 0 || other.given() > 0 {
@@ -263,7 +279,8 @@ fn runs_alike(
 }
 
 // Whether a book in which more is run and taken back goes the way of one in which it isn't.
-fn goes_the_same_way(book: &mut Book, copy: &mut Book) -> Result<bool, AllocError> {
+fn goes_the_same_way(alloc: Global, book: &mut Book, copy: &mut Book) -> Result<bool, AllocError> {
+    book.keep_queued(alloc)?;
     let mut numbers = Numbers { state: 1 };
     for _ in 0..3_000 {
         if !runs_in_vain(book, &mut numbers)? {
@@ -276,17 +293,20 @@ fn goes_the_same_way(book: &mut Book, copy: &mut Book) -> Result<bool, AllocErro
         if !tell_the_same(book, copy) || !have_the_same_outcomes(book, copy) {
             return Ok(false);
         }
+        if !tells_what_is(alloc, book)? {
+            return Ok(false);
+        }
     }
     Ok(have_the_same_entries(book, copy))
 }
 
 // Whether a book whose entries are taken back is as before, and then goes the way of its copy through the whole plan.
-fn goes_on_as_before(book: &mut Book, copy: &mut Book) -> Result<bool, AllocError> {
+fn goes_on_as_before(alloc: Global, book: &mut Book, copy: &mut Book) -> Result<bool, AllocError> {
     Ok(
         frees_what_was_taken(book)?
             && leaves_the_state(book)?
             && take_back_to(book, 0)
-            && goes_the_same_way(book, copy)?
+            && goes_the_same_way(alloc, book, copy)?
             && book.all_tasks_ended(),
     )
 }
@@ -297,7 +317,7 @@ fn a_book_whose_entries_are_taken_back_goes_on_as_before(
 ) -> Result<(), AllocError> {
     let mut book = opening(&rt, rt.alloc())?;
     let mut copy = opening(&rt, rt.alloc())?;
-    let goes_on = goes_on_as_before(&mut book, &mut copy);
+    let goes_on = goes_on_as_before(rt.alloc(), &mut book, &mut copy);
     drop(book);
     drop(copy);
     assert!(rt; goes_on?);
