@@ -1,6 +1,6 @@
 -- Who sleeps, who looks, and what is so of both after somebody was woken.
-use Rattle.std.proofs.Common.{◌≡◌, ◌<◌, inl, inr, ℕ, Bool, List, Some, refl, sym, ap, ◌∙◌, arith}
-use Rattle.std.specs.Prelude.{length, replicate, set, slice_get}
+use Rattle.std.proofs.Common.{◌≡◌, ◌<◌, inl, inr, ℕ, Bool, true, false, not, List, Some, refl, sym, ap, ◌∙◌, arith}
+use Rattle.std.specs.Prelude.{◌&&◌, length, replicate, set, slice_get}
 use Rattle.std.proofs.lemmas.List.{get_or-replicate, length-replicate, set-get_or}
 use Rattle.std.proofs.lemmas.Option.{get_or_from_slice_get, slice_get_within}
 use Rattle.resource_lock.proofs.lemmas.Lists.{count_by-set, one_if}
@@ -45,3 +45,13 @@ pub quiet_after : (book : BookView) (queued : Bool) (xs : List Stance) (who : Wo
 quiet_after book queued xs woken.Nobody by = by.nobody refl
 quiet_after book queued xs (woken.One w) by = let found = by.one w refl in inl (one_looks xs w.0 found.1 found.2)
 quiet_after book queued xs woken.All by = inr (λ w a low at. absurd (none_sleeps (length xs) w a at))
+
+-- an entry wakes none of those that don't sleep
+pub unwoken : (entered sleeps : Bool) → sleeps ≡ false → false ≡ (entered && sleeps)
+unwoken true sleeps none = sym none
+unwoken false sleeps none = refl
+
+-- who isn't woken sleeps on
+pub sleeps_on : (sleeps : Bool) → sleeps ≡ (sleeps && not false)
+sleeps_on true = refl
+sleeps_on false = refl

@@ -138,6 +138,13 @@ impl Sleepers {
         ensures { EndsHold book.now worker stance entered self.old self.new result }
     {
         let workers = self.stances.settle(book, self.queued, worker, stance);
+        if !self.entry_may_wake() {
+            return Wakes {
+                transforms: false,
+                questions: false,
+                workers,
+            };
+        }
         let transforms = entered && self.transforms && last_lets_go_on(book);
         let questions = entered && self.questions;
         self.transforms = self.transforms && !transforms;
@@ -147,6 +154,15 @@ impl Sleepers {
             questions,
             workers,
         }
+    }
+
+    // Whether a transform or a question sleeps that an entry may wake.
+    #[inline(always)]
+    fn entry_may_wake(&self) -> bool
+        ensures transforms { result ≡ false → self.now.transforms ≡ false }
+        ensures questions { result ≡ false → self.now.questions ≡ false }
+    {
+        self.transforms || self.questions
     }
 
     /// Ends the hold in which a transform of this kind was run.
