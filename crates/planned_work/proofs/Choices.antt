@@ -10,7 +10,7 @@ use Rattle.coordination.specs.declared.decisions.Decided.TheVariants as decided
 use Rattle.coordination.specs.declared.rule.Sight.{Sight}
 use Rattle.coordination.proofs.lemmas.Entries.{belongs_sound}
 use Rattle.worker_choices.specs.NextSteps.{HasToWait}
-use Rattle.async_tracker.specs.NextWork.{IsIdleIf, IsNextParkedWork, IsNextWorkIf, step_of_next, step_of_parked}
+use Rattle.async_tracker.specs.NextWork.{IsIdleIf, IsNextParkedWorkIf, IsNextWorkIf, step_of_next, step_of_parked}
 use Rattle.async_tracker.specs.TaskMoves.{IsNextInTask, step_of_move}
 use Rattle.async_tracker.specs.WorkSteps.{FailsAt, RetriesAt, kind_of_work}
 use Rattle.async_tracker.specs.declared.next_work.NextWork.{NextWork}
@@ -99,10 +99,7 @@ module _ (Here : BookView → Type 0) (s s' : Sight) where
   move_chosen t (decided.Answered (moves.Park a)) h here = let none = h.1 in absurd (cc)
   move_chosen t (decided.Answered moves.End) h here = let none = h.1 in absurd (cc)
 
--- the answers of the questions, as they are asked: those in an action or a task hold of what is there
-abbrev pub ParkedAnswers : ℕ → Bool → WorkerId → BookView → ParkedWork → Type 0
-ParkedAnswers a queued w book n = a < length book.graph.actions → IsNextParkedWork book.graph w book.state queued a n
-
+-- the waits and the answers of the questions, as they are asked: those in an action or a task hold of what is there
 abbrev pub ParkedWaits : ℕ → Bool → WorkerId → BookView → Type 0
 ParkedWaits a queued w book = a < length book.graph.actions → HasToWait book.graph w book.state queued a
 
@@ -118,11 +115,11 @@ idle_in s s' tried.Unanswered h = record { book = h.book; found = h.found; cause
 idle_in s s' tried.NoMemory h = h
 idle_in s s' tried.Again h = h
 
-pub parked_in : (a : ℕ) (s s' : Sight) (t : Tried ParkedWork) → place_of s ≡ places.Parked a → DecisionLeaves (ParkedAnswers a) (ParkedWaits a) (step_of_parked a) kind_of_work Makes FailsAt RetriesAt s s' t
+pub parked_in : (a : ℕ) (s s' : Sight) (t : Tried ParkedWork) → place_of s ≡ places.Parked a → DecisionLeaves (IsNextParkedWorkIf a) (ParkedWaits a) (step_of_parked a) kind_of_work Makes FailsAt RetriesAt s s' t
     → NextIn (places.Parked a) s s' (parked_next a t)
 parked_in a s s' (tried.Decided d) is h =
     chosen_next (places.Parked a) s s' (parked_next a (tried.Decided d))
-    (parked_chosen Anywhere s s' a d (decided_found (OfBook (ParkedAnswers a)) (IsParkedChoice a) (step_of_parked a) kind_of_work Makes FailsAt RetriesAt s s' (λ book found n answer. answer (parked_there s book a is found)) d h) tt)
+    (parked_chosen Anywhere s s' a d (decided_found (OfBook (IsNextParkedWorkIf a)) (IsParkedChoice a) (step_of_parked a) kind_of_work Makes FailsAt RetriesAt s s' (λ book found n answer. answer (parked_there s book a is found)) d h) tt)
 parked_in a s s' tried.Unanswered is h = record { book = h.book; found = h.found; cause = h.cause (parked_there s h.book a is h.found); sight = h.sight }
 parked_in a s s' tried.NoMemory is h = h
 parked_in a s s' tried.Again is h = h

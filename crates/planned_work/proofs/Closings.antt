@@ -8,7 +8,7 @@ use Rattle.lock_transforms.specs.declared.entries.Kind.TheVariants as kinds
 use Rattle.coordination.specs.Agrees.{Finds}
 use Rattle.coordination.specs.Decisions.{HadStep}
 use Rattle.coordination.specs.declared.rule.Sight.{Sight}
-use Rattle.async_tracker.specs.NextWork.{IsIdleIf, IsNextWorkIf, step_of_next, step_of_parked}
+use Rattle.async_tracker.specs.NextWork.{IsIdleIf, IsNextParkedWorkIf, IsNextWorkIf, step_of_next, step_of_parked}
 use Rattle.async_tracker.specs.WorkSteps.{FailsAt, RetriesAt, kind_of_work}
 use Rattle.async_tracker.specs.declared.next_work.NextWork.{NextWork}
 use Rattle.async_tracker.specs.declared.next_work.ParkedWork.{ParkedWork}
@@ -22,7 +22,7 @@ use Rattle.planned_work.specs.declared.trying.Behind.{Behind}
 use Rattle.planned_work.specs.declared.trying.Behind.TheVariants as behind
 use Rattle.planned_work.specs.declared.trying.Tried.TheVariants as tried
 use Rattle.planned_work.proofs.Carried.{Makes, chosen_then, decided_found, same_found}
-use Rattle.planned_work.proofs.Choices.{ParkedAnswers, ParkedWaits, idle_chosen, parked_chosen}
+use Rattle.planned_work.proofs.Choices.{ParkedWaits, idle_chosen, parked_chosen}
 use Rattle.planned_work.proofs.Placed.{item_there}
 
 -- an idle worker's item was closed, with the decision behind that
@@ -56,27 +56,27 @@ same_graph c s between f = ap (λ (k : Sight). k.seen.graph) f.sight ∙ (f.grap
 
 -- the item of a parked worker was closed, with the decision behind that
 pub parked_behind : (c : Closed) (u a : ℕ) (s s' : Sight) (b : Behind ParkedWork) → place_of s ≡ places.ItemIn u a
-    → FollowLeaves (ParkedAnswers a) (ParkedWaits a) (step_of_parked a) kind_of_work Makes FailsAt RetriesAt (kinds.Close c) (IsFixedList (kinds.Close c)) (IsDisabled (kinds.Close c)) s s' b
+    → FollowLeaves (IsNextParkedWorkIf a) (ParkedWaits a) (step_of_parked a) kind_of_work Makes FailsAt RetriesAt (kinds.Close c) (IsFixedList (kinds.Close c)) (IsDisabled (kinds.Close c)) s s' b
     → ClosedThen c (places.Parked a) s s' (parked_then a b)
 parked_behind c u a s s' (behind.Decided d) is h =
     let before = h.finished.before in
     let there : a < length s.seen.graph.actions = subst (λ (g : GraphView). a < length g.actions) h.finished.found.agrees.graph (item_there s before u a is h.finished.found) in
-    let at : (book : BookView) → Finds h.between.worker h.between.seen book → (n : ParkedWork) → OfBook (ParkedAnswers a) h.between.worker book n → IsParkedChoice a h.between.worker book n =
+    let at : (book : BookView) → Finds h.between.worker h.between.seen book → (n : ParkedWork) → OfBook (IsNextParkedWorkIf a) h.between.worker book n → IsParkedChoice a h.between.worker book n =
     λ book found n answer. answer (later_there s h.between book a (same_graph c s h.between h.finished) there found) in
     chosen_then c (places.Parked a) s h.between s' (parked_next a (tried.Decided d)) h.finished
     (parked_chosen (Is h.between.seen) h.between s' a d
-    (decided_found (OfBook (ParkedAnswers a)) (IsParkedChoice a) (step_of_parked a) kind_of_work Makes FailsAt RetriesAt h.between s' at d h.decided)
-    (same_found (OfBook (ParkedAnswers a)) (IsParkedChoice a) (step_of_parked a) kind_of_work Makes FailsAt RetriesAt h.between s' at d h.decided ∙ h.at_once))
+    (decided_found (OfBook (IsNextParkedWorkIf a)) (IsParkedChoice a) (step_of_parked a) kind_of_work Makes FailsAt RetriesAt h.between s' at d h.decided)
+    (same_found (OfBook (IsNextParkedWorkIf a)) (IsParkedChoice a) (step_of_parked a) kind_of_work Makes FailsAt RetriesAt h.between s' at d h.decided ∙ h.at_once))
 parked_behind c u a s s' behind.Alone is h =
     let there : a < length s'.seen.graph.actions =
     subst (λ (g : GraphView). a < length g.actions) (h.finished.found.agrees.graph ∙ sym (same_graph c s s' h.finished)) (item_there s h.finished.before u a is h.finished.found) in
     record { between = s'; closed = h.finished; follows = inl (refl, why there h.why) }
   where
-    step_there : a < length s'.seen.graph.actions → HadStep (OfBook (ParkedAnswers a)) (step_of_parked a) s'.worker s'.seen → HadStep (IsParkedChoice a) (step_of_parked a) s'.worker s'.seen
+    step_there : a < length s'.seen.graph.actions → HadStep (OfBook (IsNextParkedWorkIf a)) (step_of_parked a) s'.worker s'.seen → HadStep (IsParkedChoice a) (step_of_parked a) s'.worker s'.seen
     step_there there k =
         (k.0, k.1, k.2, record { answer = k.3.answer (subst (λ (g : GraphView). a < length g.actions) k.1.graph there); step = k.3.step; is = k.3.is; left = tt })
 
-    why : a < length s'.seen.graph.actions → WaitsOfBook (ParkedWaits a) s'.worker s'.seen ⊎ HadStep (OfBook (ParkedAnswers a)) (step_of_parked a) s'.worker s'.seen
+    why : a < length s'.seen.graph.actions → WaitsOfBook (ParkedWaits a) s'.worker s'.seen ⊎ HadStep (OfBook (IsNextParkedWorkIf a)) (step_of_parked a) s'.worker s'.seen
         → HasNoChoice (places.Parked a) s'.worker s'.seen ⊎ HadStep (IsParkedChoice a) (step_of_parked a) s'.worker s'.seen
     why there (inl waits) = inl (waits there)
     why there (inr step) = inr (step_there there step)
