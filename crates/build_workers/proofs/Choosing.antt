@@ -1,5 +1,5 @@
 -- What an idle worker has after it decided what is next.
-use Rattle.std.proofs.Common.{◌≡◌, ◌⊎◌, ℕ, ◌<◌, inl, inr, Bool, Some, Result, Ok, Err, [], All, length, IfOk, refl, sym, ap, ◌∙◌, subst}
+use Rattle.std.proofs.Common.{◌≡◌, ◌⊎◌, ℕ, ◌<◌, inl, inr, Bool, true, false, Some, Result, Ok, Err, [], All, length, IfOk, refl, sym, ap, ◌∙◌, subst}
 use Rattle.resource_lock.specs.Fits.{Fits}
 use Rattle.resource_lock.specs.GraphView.{GraphView}
 use Rattle.resource_lock.specs.StateView.{StateView}
@@ -100,13 +100,9 @@ stopped_end t old new by (inr k) = closes_then (finished_closes k.ended) (in_vai
 -- they close nothing
 pub end_closes : (t : ℕ) (old new : Sight) (r : Result (Decided NextWork) Halt) → IfOk r (EndsWork t old new) → (r ≡ Err Halt.NoMemory → HasLooked old new ⊎ EndsUnstepped t old new)
     → ((by : WorkerId) → r ≡ Err (Halt.Stopped by) → WasStopped (CannotEnd t) by old new ⊎ EndsInVain t by old new) → HasClosed [] old new
-end_closes t old new (Ok d) k looked stopped = closes_then (finished_closes k.ended) (decided_closes d k.then.decided)
+end_closes t old new (Ok d) k looked stopped = closes_then (finished_closes k.ended) (decided_closes (AsTold TellsOwn IsNextWorkIf) step_of_next d k.then.decided)
 end_closes t old new (Err Halt.NoMemory) k looked stopped = looked_end t old new (looked refl)
 end_closes t old new (Err (Halt.Stopped by)) k looked stopped = stopped_end t old new by (stopped by refl)
 
 pub begun_after : (t : ℕ) (old new : Sight) (d : Decided NextWork) → EndsWork t old new d → Fits old.seen.graph → ((s : Sight) → ShowsEnded t old s → HoldsNothing s) → HasBegun new (next_of d)
 begun_after t old new d k fits alone = begun k.between new d k.then.decided (subst Fits (sym k.shows.graph) fits) (alone k.between k.shows)
-
--- a worker that has begun a task has begun no other step, and one that finishes has nothing
-pub finish_rests : {s : Sight} → HasBegun s next.Finish → HoldsNothing s
-finish_rests begun = begun.rests

@@ -4,12 +4,13 @@ use Rattle.resource_lock.specs.Fits.{Fits}
 use Rattle.resource_lock.specs.GraphView.{GraphView, action_of}
 use Rattle.resource_lock.specs.Ranges.{lock_with}
 use Rattle.resource_lock.specs.StateView.{Holding}
+use Rattle.coordination.specs.Offered.{AsTold}
 use Rattle.coordination.specs.Planned.{TellsOwn}
 use Rattle.coordination.specs.Shown.{ShowsTheSame}
 use Rattle.coordination.specs.declared.decisions.Decided.{Decided}
 use Rattle.coordination.specs.declared.halts.Halt.{Halt}
 use Rattle.coordination.specs.declared.rule.Sight.{Sight}
-use Rattle.async_tracker.specs.NextWork.{ShowsParkedWork, next_of, parked_of}
+use Rattle.async_tracker.specs.NextWork.{IsNextParkedWorkIf, IsNextWorkIf, ShowsParkedWork, next_of, parked_of, step_of_next, step_of_parked}
 use Rattle.async_tracker.specs.ParkedView.{ParkedView}
 use Rattle.async_tracker.specs.Shows.{ShowsClosed, ShowsResumed}
 use Rattle.async_tracker.specs.declared.next_work.NextWork.{NextWork}
@@ -27,6 +28,7 @@ use Rattle.build_workers.proofs.Choosing.{begun}
 use Rattle.build_workers.proofs.Keeping.{decided_closes}
 use Rattle.build_workers.proofs.Points.{same_helps, same_rests}
 use Rattle.build_workers.proofs.Stepping.{moved_on, step_moved, step_then}
+use Rattle.build_workers.proofs.lemmas.Results.{if_ok}
 
 -- what was decided, told from before a part that changed nothing that the pass shows
 pub work_from : (a : ℕ) (old mid new : Sight) (n : ParkedWork) → ShowsTheSame old mid → ShowsParkedWork a mid new n → ShowsParkedWork a old new n
@@ -39,11 +41,13 @@ pub decided_from : (a : ℕ) (old mid new : Sight) (r : Result ParkedWork Halt) 
 decided_from a old mid new (Ok n) same shows = work_from a old mid new n same shows
 decided_from a old mid new (Err e) same shows = tt
 
+-- what a pass shows, by what was decided
+pub shown_as : (a : ℕ) (old new : Sight) (r : Result ParkedWork Halt) (x n : ParkedWork) → r ≡ Ok x → x ≡ n → IfOk r (ShowsParkedWork a old new) → ShowsParkedWork a old new n
+shown_as a old new r x n is same shows = subst (ShowsParkedWork a old new) same (if_ok (ShowsParkedWork a old new) r x is shows)
+
 -- where a worker that is parked resumes, with the graph of the run
-pub resumed_in : (g : GraphView) (a : ℕ) (old new : Sight) (failed : Bool) (n : ParkedWork) → n ≡ parked.Resume failed → ShowsParkedWork a old new n → old.seen.graph ≡ g
-    → ShowsResumed (action_of g a).retention (lock_with g a) a old new
-resumed_in g a old new failed n is shows graph =
-    subst (λ (k : GraphView). ShowsResumed (action_of k a).retention (lock_with k a) a old new) graph (subst (ShowsParkedWork a old new) is shows)
+pub resumed_in : (g : GraphView) (a : ℕ) (old new : Sight) (failed : Bool) → ShowsParkedWork a old new (parked.Resume failed) → old.seen.graph ≡ g → ShowsResumed (action_of g a).retention (lock_with g a) a old new
+resumed_in g a old new failed shows graph = subst (λ (k : GraphView). ShowsResumed (action_of k a).retention (lock_with k a) a old new) graph shows
 
 module _ {s : SiteView} {old new : WorkerView} (u : ℕ) (fits : Fits s.graph) where
   -- an idle worker, which had nothing before its claim
@@ -52,7 +56,7 @@ module _ {s : SiteView} {old new : WorkerView} (u : ℕ) (fits : Fits s.graph) w
       let idle : Sight = claimed.0 in
       let none = ap (λ (h : Holding). h.lease) claimed.1.holding in
       let same : ShowsTheSame idle k.between = same_again u idle old.pass.sight k.between none claimed.2.shows k.shows in (
-        step_then k.step (step_moved true k.step.of (moved_on new k.between) (decided_closes d k.follows)),
+        step_then k.step (step_moved true k.step.of (moved_on new k.between) (decided_closes (AsTold TellsOwn IsNextWorkIf) step_of_next d k.follows)),
         begun k.between new.pass.sight d k.follows (subst Fits (sym k.step.of.at.graph) fits) (same_rests same claimed.1),
       )
 
@@ -67,4 +71,4 @@ module _ {s : SiteView} {old new : WorkerView} (u : ℕ) (fits : Fits s.graph) w
       (parked_work_shows TellsOwn p k.between new.pass.sight d k.follows (subst Fits graph fits) (subst (λ (g : GraphView). p.action < length g.actions) graph low) (parked_still p same was.0) helps.free helps.waits)
 
   pub step_behind : (a : ℕ) (d : Decided ParkedWork) → HasRunBefore s old new (ShowsClosed u) (λ x. DecidesParked TellsOwn a x new.pass.sight d) → Steps s old new true
-  step_behind a d k = step_then k.step (step_moved true k.step.of (moved_on new k.between) (decided_closes d k.follows))
+  step_behind a d k = step_then k.step (step_moved true k.step.of (moved_on new k.between) (decided_closes (AsTold TellsOwn (IsNextParkedWorkIf a)) (step_of_parked a) d k.follows))

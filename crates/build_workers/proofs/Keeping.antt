@@ -1,5 +1,5 @@
 -- What a part of a worker's run keeps goes on over the next part.
-use Rattle.std.proofs.Common.{◌≡◌, ◌≢◌, ℕ, ◌+◌, ◌-◌, ◌^◌, ◌<◌, ◌≤◌, List, [], ◌∷◌, ◌++◌, Option, Some, None, Bool, true, false, Result, Ok, Err, inl, inr, refl, sym, ◌∙◌, ap, subst, arith, cond}
+use Rattle.std.proofs.Common.{◌≡◌, ℕ, ◌+◌, ◌-◌, ◌^◌, ◌<◌, ◌≤◌, List, [], ◌∷◌, ◌++◌, Option, Some, None, true, false, Result, Ok, Err, inl, inr, refl, sym, ◌∙◌, ap, subst, arith, cond}
 use Rattle.std.specs.Prelude.{IfOk, IfSome, OnErr, OnOk}
 use Rattle.std.specs.List.{AllByRecursion}
 use Rattle.std.proofs.lemmas.Bool.{eq-eqb}
@@ -11,6 +11,7 @@ use Rattle.item_actions.specs.declared.outcomes.Outcome.{Outcome}
 use Rattle.item_actions.specs.declared.outcomes.Outcome.TheVariants as outcomes
 use Rattle.resource_lock.specs.declared.ids.WorkerId.{WorkerId}
 use Rattle.lock_journal.specs.BookView.{BookView}
+use Rattle.lock_transforms.specs.Allowed.{IsFixedList}
 use Rattle.lock_transforms.specs.Entry.{Entry, entry}
 use Rattle.lock_transforms.specs.declared.entries.Closed.{Closed}
 use Rattle.lock_transforms.specs.declared.entries.Kind.{Kind}
@@ -29,7 +30,7 @@ use Rattle.coordination.specs.declared.decisions.Decided.{Decided}
 use Rattle.coordination.specs.declared.decisions.Decided.TheVariants as decided
 use Rattle.coordination.specs.declared.halts.Halt.{Halt}
 use Rattle.coordination.specs.declared.rule.Sight.{Sight}
-use Rattle.async_tracker.specs.WorkSteps.{kind_of_work}
+use Rattle.async_tracker.specs.WorkSteps.{FailsAt, RetriesAt, kind_of_work}
 use Rattle.async_tracker.specs.declared.work_steps.WorkStep.{WorkStep}
 use Rattle.async_tracker.specs.declared.work_steps.WorkStep.TheVariants as steps
 use Rattle.build_workers.specs.Kept.{HasClosed, Keeps}
@@ -122,18 +123,18 @@ waiting_closes {old = old} {new} k = record {
 }
 
 -- what was decided closes nothing
-pub decided_closes : {A : Type 0} {answers : WorkerId → BookView → A → Type 0} {step_of : A → Option WorkStep} {makes : WorkStep → Making} {fails retries : WorkStep → Cause} {old new : Sight} (d : Decided A)
-    → HasDecided answers step_of kind_of_work makes fails retries old new d → HasClosed [] old new
-decided_closes (decided.Answered a) h = answered_closes h.0
-decided_closes (decided.Entered a true) h = work_closes h.step h.finished
-decided_closes (decided.Entered a false) h = failed_closes h.failed
-decided_closes (decided.Waiting a) h = waiting_closes h
+pub decided_closes : {A : Type 0} (answers : WorkerId → BookView → A → Type 0) (step_of : A → Option WorkStep) {old new : Sight} (d : Decided A)
+    → HasDecided answers step_of kind_of_work (λ x. IsFixedList (kind_of_work x)) FailsAt RetriesAt old new d → HasClosed [] old new
+decided_closes answers step_of (decided.Answered a) h = answered_closes h.0
+decided_closes answers step_of (decided.Entered a true) h = work_closes h.step h.finished
+decided_closes answers step_of (decided.Entered a false) h = failed_closes h.failed
+decided_closes answers step_of (decided.Waiting a) h = waiting_closes h
 
 -- nor does a decision that came to nothing
-pub deciding_closes : {A : Type 0} {answers : WorkerId → BookView → A → Type 0} {step_of : A → Option WorkStep} {makes : WorkStep → Making} {fails retries : WorkStep → Cause} {old new : Sight} (r : Result (Decided A) Halt)
-    → IfOk r (HasDecided answers step_of kind_of_work makes fails retries old new) → OnErr r (HasClosed [] old new) → HasClosed [] old new
-deciding_closes (Ok d) done still = decided_closes d done
-deciding_closes (Err e) done still = still
+pub deciding_closes : {A : Type 0} (answers : WorkerId → BookView → A → Type 0) (step_of : A → Option WorkStep) {old new : Sight} (r : Result (Decided A) Halt)
+    → IfOk r (HasDecided answers step_of kind_of_work (λ x. IsFixedList (kind_of_work x)) FailsAt RetriesAt old new) → OnErr r (HasClosed [] old new) → HasClosed [] old new
+deciding_closes answers step_of (Ok d) done still = decided_closes answers step_of d done
+deciding_closes answers step_of (Err e) done still = still
 
 -- one after the other
 pub closes_then : {ds es : List Closed} {a b c : Sight} → HasClosed ds a b → HasClosed es b c → HasClosed (ds ++ es) a c
@@ -206,15 +207,6 @@ keeps_closed known units before after d {old} {new} closed le rises honest = rec
     at None p = tt
     at (Some files) p = λ was. subst (AllByRecursion (λ x. IsHonest x.outcome (given units files x.unit))) (sym closed.closed) (all_append (λ x. IsHonest x.outcome (given units files x.unit)) (closed_by old.worker old.seen.history) (d ∷ []) was (p, tt))
 
--- whatever a transform that closes nothing answers, no unit was closed
-pub ran_closes : {kind : Kind} {makes : Making} {fails retries : Cause} {old new : Sight} (r : Result Bool Halt) → closed_of kind ≡ []
-    → (r ≡ Ok true → HasFinished kind makes old new) → (r ≡ Ok false → HasFailed kind fails old new) → (r ≡ Err Halt.NoMemory → HasLooked old new) → ((by : WorkerId) → r ≡ Err (Halt.Stopped by) → WasStopped retries by old new)
-    → HasClosed [] old new
-ran_closes {kind} {makes} {fails} {retries} {old} {new} (Ok true) none finished failed looked stopped = subst (λ ds. HasClosed ds old new) none (finished_closes (finished refl))
-ran_closes (Ok false) none finished failed looked stopped = failed_closes (failed refl)
-ran_closes (Err Halt.NoMemory) none finished failed looked stopped = looked_closes (looked refl)
-ran_closes (Err (Halt.Stopped by)) none finished failed looked stopped = stopped_closes (stopped by refl)
-
 -- whatever a call answers that gives a value where its transform finishes, no unit was closed, where that transform closes none
 pub gave_closes : {T : Type 0} {retries : Cause} {old new : Sight} (kind : Kind) (makes : Making) (r : Result T Halt) → closed_of kind ≡ []
     → OnOk r (HasFinished kind makes old new) → (r ≡ Err Halt.NoMemory → HasLooked old new) → ((by : WorkerId) → r ≡ Err (Halt.Stopped by) → WasStopped retries by old new)
@@ -222,22 +214,6 @@ pub gave_closes : {T : Type 0} {retries : Cause} {old new : Sight} (kind : Kind)
 gave_closes {old = old} {new} kind makes (Ok x) none finished looked stopped = subst (λ ds. HasClosed ds old new) none (finished_closes finished)
 gave_closes kind makes (Err Halt.NoMemory) none finished looked stopped = looked_closes (looked refl)
 gave_closes kind makes (Err (Halt.Stopped by)) none finished looked stopped = stopped_closes (stopped by refl)
-
--- at a value, and at an error
-pub closes_at_ok : {T E : Type 0} {ds : List Closed} {old new : Sight} (r : Result T E) (x : T) → r ≡ Ok x → OnOk r (HasClosed ds old new) → HasClosed ds old new
-closes_at_ok (Ok y) x is closed = closed
-closes_at_ok (Err e) x is closed = absurd (cc)
-
-pub closes_at_err : {T E : Type 0} {ds : List Closed} {old new : Sight} (r : Result T E) (x : E) → r ≡ Err x → OnErr r (HasClosed ds old new) → HasClosed ds old new
-closes_at_err (Ok y) x is closed = absurd (cc)
-closes_at_err (Err e) x is closed = closed
-
--- a question that was answered, or was asked in vain, closes nothing
-pub asked_closes : {A : Type 0} {waits : WorkerId → BookView → Type 0} {old new : Sight} (answers : WorkerId → BookView → A → Type 0) (r : Result A Halt)
-    → IfOk r (λ a. IsAnswered answers a old new) → ((by : WorkerId) → r ≡ Err (Halt.Stopped by) → AskedInVain waits by old new) → r ≢ Err Halt.NoMemory → HasClosed [] old new
-asked_closes answers (Ok a) answered stopped memory = answered_closes answered
-asked_closes answers (Err Halt.NoMemory) answered stopped memory = absurd (memory refl)
-asked_closes answers (Err (Halt.Stopped by)) answered stopped memory = in_vain_closes (stopped by refl)
 
 -- no unit was closed, while the count rose
 pub keeps_risen : (known : Option Folder) (units : List PlannedUnit) (before after : ℕ) {old new : Sight} → HasClosed [] old new → before ≤ after → Keeps known units before after old new

@@ -59,15 +59,6 @@ same_rests {a} {c} same rests = record {
       (same.blocked ∙ ap (λ (h : Holding). h.blocked) rests.holding);
 }
 
-pub same_runs : {t : ℕ} {a c : Sight} → ShowsTheSame a c → RunsTask t a → RunsTask t c
-same_runs {t} {a} {c} same runs = record {
-  locks = same.locks ∙ (runs.locks ∙ ap (λ (g : GraphView). (task_of g t).lock ∷ []) (sym same.graph));
-  lease = same.lease ∙ runs.lease;
-  claimed = same.claimed ∙ runs.claimed;
-  parked = same.parked ∙ runs.parked;
-  blocked = same.blocked ∙ runs.blocked;
-}
-
 pub same_helps : {a c : Sight} → ShowsTheSame a c → CanHelp a → CanHelp c
 same_helps {a} {c} same helps = record {
   free = record {
@@ -81,17 +72,6 @@ same_helps {a} {c} same helps = record {
     at : IsIdleOrParked a → IsIdleOrParked c
     at (inl (locks, claimed)) = inl (same.locks ∙ locks, same.claimed ∙ claimed)
     at (inr parked) = inr (subst (λ ms. list_any is_action ms ≡ true) (sym same.claimed) parked)
-
--- who has nothing can help
-pub rests_helps : {s : Sight} → HoldsNothing s → CanHelp s
-rests_helps {s} rests = record {
-  free = record {
-    lease = ap (λ (h : Holding). h.lease) rests.holding;
-    blocked = ap (λ (h : Holding). h.blocked) rests.holding;
-    units = ap (list_any is_unit) rests.claimed;
-  };
-  waits = inl (rests.locks, rests.claimed);
-}
 
 -- a task starts
 pub started : {t : ℕ} {old new : Sight} → ShowsStarted t old new → HoldsNothing old → RunsTask t new

@@ -1,6 +1,8 @@
 use Rattle.std.proofs.Common.{subst, sym, true}
 use Rattle.resource_lock.specs.Fits.{Fits}
+use Rattle.coordination.specs.Offered.{AsTold}
 use Rattle.coordination.specs.Planned.{TellsOwn}
+use Rattle.async_tracker.specs.NextWork.{IsNextWorkIf, step_of_next}
 use Rattle.async_tracker.proofs.lemmas.NextWork.{DecidesWork}
 use Rattle.build_workers.specs.Choices.{HasBegun}
 use Rattle.build_workers.proofs.Choosing.{begun}
@@ -12,12 +14,12 @@ use Rattle.build_workers.proofs.idle.choose.Goals as goal
 pub returns-in_err-decided-clause-step : goal.returns-in_err-decided-clause-step
 returns-in_err-decided-clause-step g c =
     let e = c.decide.ensures in
-    step_moved true c.requires.of e.moves (deciding_closes c.decide.result e.decided e.closed)
+    step_moved true c.requires.of e.moves (deciding_closes (AsTold TellsOwn IsNextWorkIf) step_of_next c.decide.result e.decided e.closed)
 
 pub returns-clause-step : goal.returns-clause-step
 returns-clause-step g c =
     let e = c.decide.ensures in
-    step_moved true c.requires.of e.moves (deciding_closes c.decide.result e.decided e.closed)
+    step_moved true c.requires.of e.moves (deciding_closes (AsTold TellsOwn IsNextWorkIf) step_of_next c.decide.result e.decided e.closed)
 
 pub returns-clause-begun : goal.returns-clause-begun
 returns-clause-begun g c =

@@ -1,8 +1,9 @@
 use Rattle.std.proofs.Common.{◌<◌, IfOk, length, subst, sym, true}
 use Rattle.resource_lock.specs.Fits.{Fits}
 use Rattle.resource_lock.specs.GraphView.{GraphView}
+use Rattle.coordination.specs.Offered.{AsTold}
 use Rattle.coordination.specs.Planned.{TellsOwn}
-use Rattle.async_tracker.specs.NextWork.{ShowsParkedWork}
+use Rattle.async_tracker.specs.NextWork.{IsNextParkedWorkIf, ShowsParkedWork, step_of_parked}
 use Rattle.async_tracker.proofs.lemmas.NextWork.{DecidesParked, parked_work_shows}
 use Rattle.build_workers.proofs.Keeping.{deciding_closes}
 use Rattle.build_workers.proofs.Stepping.{step_moved}
@@ -12,12 +13,12 @@ use Rattle.build_workers.proofs.parked.choose.Goals as goal
 pub returns-in_err-decided-clause-step : goal.returns-in_err-decided-clause-step
 returns-in_err-decided-clause-step g c =
     let e = c.decide.ensures in
-    step_moved true c.requires.of e.moves (deciding_closes c.decide.result e.decided e.closed)
+    step_moved true c.requires.of e.moves (deciding_closes (AsTold TellsOwn (IsNextParkedWorkIf c.action.result)) (step_of_parked c.action.result) c.decide.result e.decided e.closed)
 
 pub returns-clause-step : goal.returns-clause-step
 returns-clause-step g c =
     let e = c.decide.ensures in
-    step_moved true c.requires.of e.moves (deciding_closes c.decide.result e.decided e.closed)
+    step_moved true c.requires.of e.moves (deciding_closes (AsTold TellsOwn (IsNextParkedWorkIf c.action.result)) (step_of_parked c.action.result) c.decide.result e.decided e.closed)
 
 pub returns-clause-shows : goal.returns-clause-shows
 returns-clause-shows g c =
