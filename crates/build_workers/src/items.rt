@@ -163,7 +163,8 @@ where
 }
 
 // Closes an item that the worker has claimed, and decides what is next: in the same hold of the state lock, but where a view looks at the
-// closing, or a daemon is stopped behind it, the decision has a hold of its own.
+// closing, or a daemon is stopped behind it, the decision has a hold of its own. So it has where there are fewer leases than workers: else
+// the next claim takes the lease that the closing gives back, and who waits for one gets none as long as units are queued.
 fn close_and_decide<T: RunTypes, Q: Decision>(
     site: &Site<'_, '_, T>,
     worker: &mut Worker<T>,
@@ -184,7 +185,9 @@ where
 {
     let RanItem { closed, spare } = ran;
     match spare {
-        None if !worker.is_watched() => close_at_once(site, worker, closed, next),
+        None if !worker.is_watched() && site.has_lease_for_each() => {
+            close_at_once(site, worker, closed, next)
+        }
         spare => {
             close_alone(site, worker, closed, spare)?;
             decide(site, worker, next)

@@ -1,5 +1,5 @@
 //! What the workers of a run share.
-ghost use Rattle.std.specs.Prelude.{◌≡◌, ◌+◌, ◌<◌, ℕ, Some, length, slice_get, true};
+ghost use Rattle.std.specs.Prelude.{◌≡◌, ◌+◌, ◌<◌, ◌≤◌, ℕ, Some, false, length, slice_get, true};
 ghost use Rattle.item_actions.specs.Forms.{is_file_name};
 ghost use Rattle.resource_lock.specs.Fits.{Fits};
 ghost use Rattle.resource_lock.specs.GraphView.{action_of, task_of};
@@ -59,6 +59,14 @@ impl<'a, 'r, T: RunTypes> Model for Site<'a, 'r, T> {
 }
 
 impl<'a, 'r, T: RunTypes> Site<'a, 'r, T> {
+    /// Whether there are as many leases as workers: then none of them ever waits for one.
+    pub fn has_lease_for_each(&self) -> bool
+        ensures yes { result ≡ true → self.now.graph.workers ≤ self.now.graph.max_leases }
+        ensures no { result ≡ false → self.now.graph.max_leases < self.now.graph.workers }
+    {
+        self.graph.workers() <= self.graph.max_leases()
+    }
+
     /// The actions of a task, by number.
     pub fn actions_of(&self, task: u32) -> Range<u32>
         requires { task < length self.now.graph.tasks }
