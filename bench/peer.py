@@ -16,10 +16,10 @@ With --ahead the runs that are timed, and those that perf counts, go before all 
 much else runs, the threads of a run hardly ever run at once, and so don't contend. With it they do, as on a quiet machine. It needs the
 right to ask for that.
 
-Measured: times the peer's processor time, running alone: a chain 2.25 on one thread and 1.9 on 4 to 32, small items 1.81 and 1.8 to 2.0,
-contended locks 1.95 and 1.4 to 1.6. In three quieter hours one thread took 2.4 to 3.1, 1.0 to 1.7 and 1.7 to 2.8 times. 4 threads take 1.0
-to 1.8 times the clock of one. Instructions an entry 930, 948 and 898, the peer's 258, 297 and 238; a unit running alone 10,323, 3,750 and
-4,150. Calls of futex a unit on 8 threads 0.01, 0.23 and 0.5 in a quiet hour, 0.02, 2.4 and 2.2 beside other work.
+Measured, medians of five, ahead of other work: times the peer's processor time, running alone: a chain 1.72 on one thread and 1.4 to 1.5 on
+4 to 32, small items 1.43 and 1.4 to 1.5, contended locks 1.41 and 1.3 to 1.4. 4 threads take 1.10, 1.07 and 1.37 times the clock of one.
+Instructions an entry 898, 808 and 770, the peer's 258, 297 and 238; a unit running alone 7,362, 3,047 and 3,295. Calls of futex a unit on 8
+threads 0.01, 0.39 and 1.0 by strace, 0.02, 1.8 and 2.0 by perf.
 """
 
 import dataclasses
