@@ -9,12 +9,12 @@ Makes its files in a temporary folder. Not part of the gate. Skips, with status 
 Measured: refused words 194,232 instructions, 160,973 of them the loader's; a run of one task 292,848: 161,841 the loader, 84,162 the C
 library, 13,644 words, 11,997 the plan, 21,204 all else (goal 200,000).
 
-The loader's are out of reach here: 103,000 relocate, mostly for 52 symbols, which the kit's link has bound at the start. So all else would have to take
-38,000 in place of 131,000. By callgrind, with what each calls (an unproved build that released its memory, 316,254): `leases_cli::top::run`
-70,000, of these the plan's reading 37,700, the book with its index 14,600, the fork with what the first thread does 9,200; the words of `run` 35,200, of these `clap`'s walk
-over one word with eight parameters 19,300 and the grammar, which is that of the one command alone, 6,000. In all of these 35,200 take memory
-and 19,700 give it back, and 16,500 clear two buffers of the kit, 4,100 the page, and 4,100 the buffer of the plan's file (`rep stosb`, which
-callgrind counts by the byte). Nothing else is over 5,000.
+The loader's are out of reach here: 103,000 relocate, mostly for 52 symbols, which the kit's link has bound at the start. So all else would have to
+take 38,000 in place of 131,000. By callgrind, with what each calls (an unproved build that released its memory, 316,254): `leases_cli::top::run`
+70,000, of these the plan's reading 37,700, the book with its index 14,600, the fork with what the first thread does 9,200; the words of `run` 35,200,
+of these `clap`'s walk over one word with eight parameters 19,300 and the grammar, which is that of the one command alone, 6,000. In all of these
+35,200 take memory and 19,700 give it back, and 16,500 clear two buffers of the kit, 4,100 the page, and 4,100 the buffer of the plan's file (`rep
+stosb`, which callgrind counts by the byte). Nothing else is over 5,000.
 """
 
 import collections
