@@ -21,12 +21,13 @@ use Rattle.coordination.specs.declared.sleepers.Sleepers.{Sleepers}
 use Rattle.coordination.specs.declared.sleepers.Wakes.{Wakes}
 use Rattle.coordination.specs.declared.turns.Came.{Came}
 use Rattle.coordination.specs.declared.turns.Came.TheVariants as came
-use Rattle.coordination.specs.Attempts.{Cause, HasAsked, HasHeld, Making}
+use Rattle.coordination.specs.Attempts.{Cause, HasAsked, HasHeld, HasRunFirst, Making}
 use Rattle.coordination.specs.Decisions.{DecideGives, EndsDecision, HadStep, HasDecidedHeld, noted_deciding, stance_entered}
 use Rattle.coordination.specs.SleepAndWake.{EndsHold, IsAwake, begun, has_entered, looks_behind_answers, looks_if, noted_after, noted_asking, stance_after, stance_asking, stance_waiting, stances_after, woken_if}
 use Rattle.coordination.specs.Offered.{AnswersWith, Telling, WaitsWith}
 use Rattle.coordination.specs.declared.outside_work.Queued.{Queued}
 use Rattle.coordination.specs.declared.sleepers.Then.{Then}
+use Rattle.coordination.specs.declared.sleepers.Then.TheVariants.{Leaves as ThenLeaves}
 use Rattle.coordination.specs.Turns.{Leaves}
 use Rattle.coordination.proofs.Sleeping.{none_sleeps}
 
@@ -94,6 +95,11 @@ pub run_awake : {E : Type 0} (kind : Kind) (makes : Making) (fails retries : Cau
     → HasHeld kind makes fails retries tells w behind b old new part before after r → IsAwake w after
 run_awake kind makes fails retries tells w behind b old new part before after r h =
     held_awake new w (stance_after behind kind r.0) (has_entered r.0) (begun h.queued behind before) h.left after r.1 h.run.ends (λ a. after_awake behind kind r.0 a) (ap (λ (s : Sleepers). s.stances) h.noted ∙ noted_same b r.0 h.left)
+
+pub stopped_awake : {E : Type 0} (kind : Kind) (makes : Making) (fails retries : Cause) (tells : Telling) (w : WorkerId) (b : Bool) (old new : BookView) (part : WorkerPart) (before after : Sleepers) (r : Result Disposition E × Wakes)
+    → HasRunFirst kind makes fails retries tells w b old new part before after r → r.0 ≢ Ok Finished → IsAwake w after
+stopped_awake kind makes fails retries tells w b old new part before after r h ne =
+    held_awake new w (stance_after ThenLeaves kind r.0) (has_entered r.0) (begun h.queued ThenLeaves before) h.left after r.1 (h.run.ends ne) (λ a. after_awake ThenLeaves kind r.0 a) (ap (λ (s : Sleepers). s.stances) h.noted ∙ noted_same b r.0 h.left)
 
 pub asked_awake : {A : Type 0} (answers : Bool → WorkerId → BookView → A → Type 0) (waits : Bool → WorkerId → BookView → Type 0) (awaits : Option Awaited) (tells : Telling) (w : WorkerId) (behind : Then) (woken apart : Bool) (book : BookView) (before after : Sleepers) (r : Option A × Wakes)
     → HasAsked answers waits awaits tells w behind woken apart book before after r → (a : A) → r.0 ≡ Some a → IsAwake w after

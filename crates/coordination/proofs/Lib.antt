@@ -16,6 +16,7 @@ pub mod Rising
 pub mod Following
 pub mod HandedBack
 pub mod ItemEntries
+pub mod KnownChanges
 pub mod AtRest
 pub mod Totals
 pub mod Together

@@ -1,5 +1,5 @@
 -- What each kind of turn leaves of a book.
-use Rattle.std.proofs.Common.{◌≡◌, Bool, true, false, ◌++◌, Result, Ok, Err, Option, Some, None, ◌<◌, refl, sym, ap, ◌∙◌, subst, append_assoc}
+use Rattle.std.proofs.Common.{◌≡◌, ◌≢◌, Bool, true, false, ◌++◌, Result, Ok, Err, Option, Some, None, ◌<◌, refl, sym, ap, ◌∙◌, subst, append_assoc}
 use Rattle.resource_lock.specs.GraphView.{GraphView}
 use Rattle.resource_lock.specs.StateView.{StateView}
 use Rattle.resource_lock.specs.declared.ids.WorkerId.{WorkerId}
@@ -17,7 +17,7 @@ use Rattle.coordination.specs.declared.sleepers.Sleepers.{Sleepers}
 use Rattle.coordination.specs.declared.sleepers.Wakes.{Wakes}
 use Rattle.coordination.specs.declared.turns.Came.{Came}
 use Rattle.coordination.specs.declared.turns.Came.TheVariants as came
-use Rattle.coordination.specs.Attempts.{Answers, Cause, HasRun, Making, Ran}
+use Rattle.coordination.specs.Attempts.{Answers, Cause, HasRun, HasRunOn, Making, Ran}
 use Rattle.coordination.specs.Decisions.{DecideGives, HadStep, HasStepped, carried_out}
 use Rattle.coordination.specs.Offered.{AnswersWith, AsTold, Telling, TellsQueued, WaitsAsTold, WaitsWith, is_queued_in}
 use Rattle.coordination.specs.declared.outside_work.Queued.{Queued}
@@ -128,6 +128,26 @@ module _ {A X E : Type 0} (answers : WorkerId → BookView → A → Type 0) (wa
       subst (HasLeft (DecideGives answers step_of kind_of makes fails retries) waits (HadStep answers step_of) w old new part) (sym same)
       (record { own = run_own (kind_of x) (makes x) (fails x) (retries x) w old new h.graph r.0 h.ran; kept = h.kept; room = h.room; leaves = step_leaves w old new a x answer is r.0 h.ran })
 
+-- what came of a transform tells whether it finished
+pub finished_of : {E : Type 0} (r : Result Disposition E) → came_of r ≡ came.Done true → r ≡ Ok Finished
+finished_of (Ok Finished) is = refl
+finished_of (Ok Failed) is = absurd (cc)
+finished_of (Ok Retry) is = absurd (cc)
+finished_of (Err e) is = absurd (cc)
+
+pub unfinished_of : {E : Type 0} (r : Result Disposition E) (c : Came Bool) → came_of r ≡ c → c ≢ came.Done true → r ≢ Ok Finished
+unfinished_of r c is other finished = other (sym is ∙ ap (λ q. came_of q) finished)
+
+-- it didn't where it failed, found no memory, or is to be had again
+pub not_failed : ◌≢◌ {A = Came Bool} (came.Done false) (came.Done true)
+not_failed is = cc
+
+pub not_without_memory : ◌≢◌ {A = Came Bool} came.NoMemory (came.Done true)
+not_without_memory is = cc
+
+pub not_again : ◌≢◌ {A = Came Bool} came.Again (came.Done true)
+not_again is = cc
+
 -- own entries behind own entries
 adds_then : (w : WorkerId) (old between new : BookView) → AddsOwn (sight_at w old) between → AddsOwn (sight_at w between) new → AddsOwn (sight_at w old) new
 adds_then w old between new a b = record {
@@ -151,7 +171,7 @@ module _ {A X : Type 0} (answers : WorkerId → BookView → A → Type 0) (wait
   followed_leaves w old between new graph f came.NoMemory h = (still_finishes kind making w old between new f h.1, h.0)
   followed_leaves w old between new graph f came.Again h = (still_finishes kind making w old between new f h.1, h.0)
 
-  pub followed_left : {E : Type 0} (w : WorkerId) (old between new : BookView) (part part' : WorkerPart) (before left : Sleepers) (r : Result Disposition E × Wakes) → HasRun kind making failing asking w old between part before left r
+  pub followed_left : {E : Type 0} (w : WorkerId) (old between new : BookView) (part part' : WorkerPart) (before left : Sleepers) (r : Result Disposition E × Wakes) → HasRunOn kind making failing asking w old between part before left r
       → came_of r.0 ≡ came.Done true → (v : Came (Decided A)) → HasLeft (DecideGives answers step_of kind_of makes fails retries) waits (HadStep answers step_of) w between new part' v
       → HasLeft (FollowGives answers waits step_of kind_of makes fails retries kind making failing) (Retries asking) Anything w old new part' (came.Done (followed_of v))
   followed_left {E} w old between new part part' before left r run is v h = record {
@@ -163,7 +183,7 @@ module _ {A X : Type 0} (answers : WorkerId → BookView → A → Type 0) (wait
   }
 
   -- where the transform doesn't finish
-  module _ {E : Type 0} (w : WorkerId) (old new : BookView) (part : WorkerPart) (before left : Sleepers) (r : Result Disposition E × Wakes) (run : HasRun kind making failing asking w old new part before left r) where
+  module _ {E : Type 0} (w : WorkerId) (old new : BookView) (part : WorkerPart) (before left : Sleepers) (r : Result Disposition E × Wakes) (run : HasRunOn kind making failing asking w old new part before left r) where
     alone_leaves : (c : Came Bool) → came_of r.0 ≡ c → Leaves (RunGives kind making failing) (Retries asking) Anything w old new c
     alone_leaves c is = subst (Leaves (RunGives kind making failing) (Retries asking) Anything w old new) is (run_leaves kind making failing asking w old new run.graph r.0 run.ran)
 

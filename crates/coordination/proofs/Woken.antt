@@ -1,11 +1,13 @@
 -- Whom the ends of a turn's holds wake.
-use Rattle.std.proofs.Common.{◌≡◌, ◌<◌, ◌⊎◌, ◌++◌, ◌∷◌, [], Bool, true, false, inl, inr, List, Result, Ok, Err, Option, Some, None, IfSome, refl, sym, ap, subst, arith, length, length-append}
+use Rattle.std.proofs.Common.{◌≡◌, ◌≢◌, ◌<◌, ◌⊎◌, ◌++◌, ◌∷◌, ◌∙◌, [], Bool, ◌||◌, true, false, inl, inr, List, Result, Ok, Err, Option, Some, None, IfSome, refl, sym, ap, subst, arith, length, length-append}
 use Rattle.resource_lock.specs.declared.ids.WorkerId.{WorkerId}
 use Rattle.lock_journal.specs.BookView.{BookView}
-use Rattle.lock_transforms.specs.Entry.{Entry}
+use Rattle.lock_transforms.specs.Entry.{Entry, entry}
 use Rattle.lock_transforms.specs.declared.entries.Kind.{Kind}
 use Rattle.lock_transforms.specs.declared.transforms.Disposition.{Disposition}
 use Rattle.lock_transforms.specs.declared.transforms.Disposition.TheVariants.{Finished, Failed, Retry}
+use Rattle.lock_journal.proofs.Adding.{last_at}
+use Rattle.worker_choices.specs.GoingOn.{any_lets_go_on, entry_lets_go_on, last_lets_go_on}
 use Rattle.worker_choices.specs.declared.awaited.Awaited.{Awaited}
 use Rattle.worker_choices.specs.Stances.{asleep, sleeps}
 use Rattle.worker_choices.specs.declared.stances.Stance.{Stance}
@@ -17,12 +19,13 @@ use Rattle.coordination.specs.declared.sleepers.Sleepers.{Sleepers}
 use Rattle.coordination.specs.declared.sleepers.Wakes.{Wakes}
 use Rattle.coordination.specs.declared.turns.Came.{Came}
 use Rattle.coordination.specs.declared.turns.Came.TheVariants as came
-use Rattle.coordination.specs.Attempts.{Cause, HasAsked, HasHeld, Making, Ran}
+use Rattle.coordination.specs.Attempts.{Cause, HasAsked, HasHeld, HasRunFirst, Making, Ran}
 use Rattle.coordination.specs.Decisions.{DecideGives, EndsDecision, HadStep, HasDecidedHeld, noted_deciding, stance_entered}
 use Rattle.coordination.specs.Offered.{AnswersWith, AreTold, Telling, TellsQueued, WaitsWith}
 use Rattle.coordination.specs.declared.outside_work.Queued.{Queued}
 use Rattle.coordination.specs.declared.sleepers.Then.{Then}
-use Rattle.coordination.specs.SleepAndWake.{EndsHold, HasWoken, begun, comes_again, has_entered, looks_behind_answers, looks_if, noted_after, noted_asking, stance_after, stance_asking, stance_waiting, woken_if}
+use Rattle.coordination.specs.declared.sleepers.Then.TheVariants.{Leaves as ThenLeaves}
+use Rattle.coordination.specs.SleepAndWake.{EndsHold, GoesOn, HasGoneOn, HasWoken, begun, comes_again, entries_let_go_on, has_entered, looks_behind_answers, looks_if, noted_after, noted_asking, stance_after, stance_asking, stance_waiting, woken_if}
 use Rattle.coordination.specs.Turns.{Leaves}
 
 -- one entry more
@@ -122,6 +125,34 @@ module _ (tells : Telling) (w : WorkerId) (behind : Then) where
 some_told : {O : Type 0} (tells : O → Telling) (offers : O) (s : Sleepers) (queued : Queued) → (asleep s.stances ≡ 0) ⊎ TellsQueued (tells offers) queued → (asleep s.stances ≡ 0) ⊎ TellsQueued (AreTold tells) queued
 some_told tells offers s queued (inl none) = inl none
 some_told tells offers s queued (inr told) = inr (λ book. (offers, told book))
+
+-- the last entry lets go on where the only new one does
+or_nothing : (b : Bool) → (b || false) ≡ b
+or_nothing true = refl
+or_nothing false = refl
+
+one_lets_go_on : (old new : BookView) (e : Entry) → new.history ≡ old.history ++ e ∷ [] → last_lets_go_on new.history ≡ entries_let_go_on (e ∷ [])
+one_lets_go_on old new e is = ap entry_lets_go_on (last_at new.history old.history e is) ∙ sym (or_nothing (any_lets_go_on e.changes))
+
+-- of a transform behind which the hold goes on where it finished
+module _ {E : Type 0} (kind : Kind) (makes : Making) (fails retries : Cause) (w : WorkerId) (b : Bool) (old new : BookView) (part : WorkerPart) (s s' : Sleepers) (r : Result Disposition E × Wakes) where
+  pub gone_on : (tells : Telling) → HasRunFirst kind makes fails retries tells w b old new part s s' r → r.0 ≡ Ok Finished → HasGoneOn w old new s s' r.1
+  gone_on tells h is =
+      let ran : Ran {E = E} kind makes fails retries w old new (Ok Finished) = subst (Ran kind makes fails retries w old new) is h.run.ran in
+      let e : Entry = entry w kind (Some ran.0) in
+      let same : h.left ≡ s' = ap (λ q. noted_after b q h.left) (sym is) ∙ sym h.noted in record {
+        queued = h.queued;
+        behind = ThenLeaves;
+        woken = false;
+        more = e ∷ [];
+        some = omega arith;
+        history = ran.1.history;
+        goes = subst (λ (p : Bool × Sleepers). GoesOn p.0 (begun h.queued ThenLeaves s) p.1 r.1) (λ i. (one_lets_go_on old new e ran.1.history i, same i)) (h.run.goes is);
+      }
+
+  pub stopped_woken : {O : Type 0} (tells : O → Telling) (offers : O) → HasRunFirst kind makes fails retries (tells offers) w b old new part s s' r → r.0 ≢ Ok Finished → HasWoken (AreTold tells) w ThenLeaves old new s s' r.1
+  stopped_woken tells offers h ne =
+      ran_woken (AreTold tells) w ThenLeaves kind makes fails retries old new s s' r.0 r.1 h.queued (some_told tells offers s h.queued h.told) h.left h.run.ran (h.run.ends ne) (subst (SleepOn h.left) (sym h.noted) (on_after b r.0 h.left))
 
 module _ {O : Type 0} (tells : O → Telling) (offers : O) (w : WorkerId) (behind : Then) where
   pub run_woken : {E : Type 0} (kind : Kind) (makes : Making) (fails retries : Cause) (b : Bool) (old new : BookView) (part : WorkerPart) (s s' : Sleepers) (r : Result Disposition E × Wakes)

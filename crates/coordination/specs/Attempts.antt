@@ -1,5 +1,5 @@
 -- One try under the lock, as the worker sees it.
-use Rattle.std.specs.Prelude.{◌≡◌, ◌⊎◌, Bool, false, List, Result, Ok, Err, Option, Some, None}
+use Rattle.std.specs.Prelude.{◌≡◌, ◌≢◌, ◌⊎◌, Bool, false, List, Result, Ok, Err, Option, Some, None}
 use Rattle.resource_lock.specs.GraphView.{GraphView}
 use Rattle.resource_lock.specs.StateView.{StateView}
 use Rattle.resource_lock.specs.declared.ids.WorkerId.{WorkerId}
@@ -10,6 +10,7 @@ use Rattle.lock_journal.specs.Ran.{FinishesIn, FailsIn, IsToRetry}
 use Rattle.lock_transforms.specs.declared.entries.Kind.{Kind}
 use Rattle.lock_transforms.specs.declared.transforms.Disposition.{Disposition}
 use Rattle.lock_transforms.specs.declared.transforms.Disposition.TheVariants.{Finished, Failed, Retry}
+use Rattle.worker_choices.specs.GoingOn.{last_lets_go_on}
 use Rattle.worker_choices.specs.Stances.{asleep}
 use Rattle.worker_choices.specs.declared.awaited.Awaited.{Awaited}
 use Rattle.coordination.specs.declared.parts.WorkerPart.{WorkerPart}
@@ -17,12 +18,13 @@ use Rattle.coordination.specs.declared.rule.Sight.{Sight}
 use Rattle.coordination.specs.declared.outside_work.Queued.{Queued}
 use Rattle.coordination.specs.declared.sleepers.Sleepers.{Sleepers}
 use Rattle.coordination.specs.declared.sleepers.Then.{Then}
+use Rattle.coordination.specs.declared.sleepers.Then.TheVariants.{Leaves}
 use Rattle.coordination.specs.declared.sleepers.Wakes.{Wakes}
 use Rattle.coordination.specs.Agrees.{Finds, IsSoundBook}
 use Rattle.coordination.specs.Offered.{AnswersWith, Telling, TellsQueued, WaitsWith}
 use Rattle.coordination.specs.Parts.{HasRoom, IsPartOf}
 use Rattle.coordination.specs.Sights.{seeing}
-use Rattle.coordination.specs.SleepAndWake.{EndsHold, begun, has_entered, noted_after, noted_asking, stance_after, stance_asking, woken_if}
+use Rattle.coordination.specs.SleepAndWake.{EndsHold, GoesOn, begun, has_entered, noted_after, noted_asking, stance_after, stance_asking, woken_if}
 
 -- where a transform may fail, or ask to be run again
 abbrev pub Cause : Type 1
@@ -47,6 +49,16 @@ pub record HasRun {E : Type 0} (kind : Kind) (makes : Making) (fails retries : C
   pub kept : IsPartOf new w part
   pub room : HasRoom part
   pub ends : EndsHold new w (stance_after sleepers.behind kind result.0) (has_entered result.0) sleepers sleepers' result.1
+
+-- The same where the hold goes on behind a transform that finishes, and else ends.
+pub record HasRunOn {E : Type 0} (kind : Kind) (makes : Making) (fails retries : Cause) (w : WorkerId) (old new : BookView)
+    (part : WorkerPart) (sleepers sleepers' : Sleepers) (result : Result Disposition E × Wakes) : Type 0 where
+  pub graph : new.graph ≡ old.graph
+  pub ran : Ran kind makes fails retries w old new result.0
+  pub kept : IsPartOf new w part
+  pub room : HasRoom part
+  pub goes : result.0 ≡ Ok Finished → GoesOn (last_lets_go_on new.history) sleepers sleepers' result.1
+  pub ends : result.0 ≢ Ok Finished → EndsHold new w (stance_after sleepers.behind kind result.0) (has_entered result.0) sleepers sleepers' result.1
 
 -- The transform found a sound book that agrees with the worker's sight, and left a sound one, which the worker saw.
 pub record Attempted {E : Type 0} (kind : Kind) (makes : Making) (fails retries : Cause) (s s' : Sight) (r : Result Disposition E) : Type 0 where
@@ -78,6 +90,15 @@ pub record HasHeld {E : Type 0} (kind : Kind) (makes : Making) (fails retries : 
   pub told : (asleep sleepers.stances ≡ 0) ⊎ TellsQueued tells queued
   pub left : Sleepers
   pub run : HasRun kind makes fails retries w old new part (begun queued behind sleepers) left result
+  pub noted : sleepers' ≡ noted_after sleeps result.0 left
+
+-- The same where the hold goes on behind a transform that finishes, and else ends without counting on the worker.
+pub record HasRunFirst {E : Type 0} (kind : Kind) (makes : Making) (fails retries : Cause) (tells : Telling) (w : WorkerId)
+    (sleeps : Bool) (old new : BookView) (part : WorkerPart) (sleepers sleepers' : Sleepers) (result : Result Disposition E × Wakes) : Type 0 where
+  pub queued : Queued
+  pub told : (asleep sleepers.stances ≡ 0) ⊎ TellsQueued tells queued
+  pub left : Sleepers
+  pub run : HasRunOn kind makes fails retries w old new part (begun queued Leaves sleepers) left result
   pub noted : sleepers' ≡ noted_after sleeps result.0 left
 
 -- The question was asked in a hold of the state lock, by a worker that was woken or wasn't, where the offers told where items waited. It was

@@ -6,15 +6,19 @@ use Rattle.resource_lock.specs.Change.{can_all, holding_after, make_all, NamesOn
 use Rattle.resource_lock.specs.Good.{Good}
 use Rattle.resource_lock.specs.StateView.{Holding, IsWorkerOf, StateView, holding_of, runs_by}
 use Rattle.resource_lock.specs.declared.changes.Change.{Change}
-use Rattle.resource_lock.specs.declared.changes.Change.TheVariants.{Lock, Move, Park}
+use Rattle.resource_lock.specs.declared.changes.Change.TheVariants.{Give, Lock, Move, Park, Take, Unlock, Unpark}
+use Rattle.resource_lock.specs.declared.ids.LockId.{LockId}
 use Rattle.resource_lock.specs.declared.ids.WorkerId.{WorkerId}
+use Rattle.resource_lock.specs.declared.marks.Mark.TheVariants.{Passed, Queued, Running, Waiting}
 use Rattle.resource_lock.specs.declared.marks.MarkId.{MarkId}
+use Rattle.resource_lock.specs.declared.marks.MarkId.TheVariants.{Action as ActionOf, Task as TaskOf}
+use Rattle.lock_transforms.specs.Allowed.{IsKindOf}
 use Rattle.lock_transforms.specs.Entry.{entry}
 use Rattle.lock_journal.specs.BookView.{BookView}
 use Rattle.lock_journal.specs.LastChanges.{last_changes}
 use Rattle.lock_journal.specs.Ran.{FinishesIn}
 use Rattle.lock_transforms.specs.MostChanges.{locks_gained}
-use Rattle.lock_transforms.specs.Table.{owned}
+use Rattle.lock_transforms.specs.Table.{list_of, owned}
 use Rattle.lock_transforms.specs.declared.entries.Kind.{Kind}
 use Rattle.lock_transforms.specs.declared.transforms.Disposition.{Disposition}
 use Rattle.lock_transforms.specs.declared.transforms.Disposition.TheVariants.{Finished, Failed, Retry}
@@ -143,6 +147,32 @@ pub record LeadsOn (s : StateView) (w : WorkerId) (part : WorkerPart) (changes :
   pub few : (front behind : List Change) → changes ≡ front ++ behind → length (claimed (make_all s w front) w) ≤ 3
   pub mark_room : 3 ≤ vec_capacity part.claimed
   pub lists : (front behind : List Change) → changes ≡ front ++ behind → FitsLocks (lock_total (make_all s w front) w) part
+
+-- in some state the part can follow these changes
+abbrev pub CanLead : WorkerId → List Change → WorkerPart → Type 0
+CanLead w changes part = (s : StateView) × LeadsOn s w part changes
+
+-- the part has followed these changes, in whatever state it could
+abbrev pub LeadsPast : WorkerId → List Change → WorkerPart → WorkerPart → Type 0
+LeadsPast w changes old new = (s : StateView) → LeadsOn s w old changes → LeadsOn (make_all s w changes) w new []
+
+-- The part can follow the last entry of the book, which wasn't given away and finished with the changes of this kind.
+pub record CanNote (w : WorkerId) (kind : Kind) (book : BookView) (part : WorkerPart) : Type 0 where
+  pub kept : book.given < length book.history
+  pub range : IsKindOf book.graph kind
+  pub state : StateView
+  pub list : last_changes book.history ≡ list_of book.graph state w kind
+  pub can : CanLead w (last_changes book.history) part
+
+-- the changes of a start, and of the beginning and the end of a wait for items for which the lock is given back and taken again
+abbrev pub started : WorkerId → LockId → ℕ → List Change
+started w l t = Lock l ∷ Take ∷ Move (TaskOf t) Waiting (Running w) ∷ []
+
+abbrev pub parked_with : WorkerId → LockId → ℕ → List Change
+parked_with w l a = Give ∷ Unlock l ∷ Park l ∷ Move (ActionOf a) Queued (Running w) ∷ []
+
+abbrev pub resumed_with : WorkerId → LockId → ℕ → List Change
+resumed_with w l a = Unpark l ∷ Lock l ∷ Take ∷ Move (ActionOf a) (Running w) Passed ∷ []
 
 -- a book after a transform of the worker
 abbrev pub Grew : {E : Type 0} → WorkerId → Kind → BookView → BookView → Result Disposition E → Type 0

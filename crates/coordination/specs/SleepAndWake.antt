@@ -1,15 +1,17 @@
 -- What the end of a hold of the state lock leaves: who sleeps, who looks and who is woken.
-use Rattle.std.specs.Prelude.{◌≡◌, ◌≢◌, ◌<◌, ◌⊎◌, ◌&&◌, not, Bool, true, false, List, Option, None, Some, Result, Ok, Err, All}
-use Rattle.std.specs.Prelude.{length, replicate, set, slice_get}
+use Rattle.std.specs.Prelude.{◌≡◌, ◌≢◌, ◌<◌, ◌⊎◌, ◌&&◌, ◌++◌, not, Bool, true, false, List, Option, None, Some, Result, Ok, Err}
+use Rattle.std.specs.Prelude.{All, length, replicate, set, slice_get}
+use Rattle.std.specs.List.{list_any}
 use Rattle.resource_lock.specs.declared.ids.WorkerId.{WorkerId}
 use Rattle.lock_journal.specs.BookView.{BookView}
+use Rattle.lock_transforms.specs.Entry.{Entry}
 use Rattle.lock_transforms.specs.declared.entries.Kind.{Kind}
 use Rattle.lock_transforms.specs.declared.entries.Kind.TheVariants.{Block, Claim, End, Park, Skip, Submit}
 use Rattle.lock_transforms.specs.declared.transforms.Disposition.{Disposition}
 use Rattle.lock_transforms.specs.declared.transforms.Disposition.TheVariants.{Finished, Failed, Retry}
 use Rattle.lock_journal.specs.Marks.{IsEnded}
 use Rattle.worker_choices.specs.NextSteps.{StillWait, Waits}
-use Rattle.worker_choices.specs.GoingOn.{last_lets_go_on}
+use Rattle.worker_choices.specs.GoingOn.{any_lets_go_on, last_lets_go_on}
 use Rattle.worker_choices.specs.Stances.{asleep, looking, sleeps}
 use Rattle.worker_choices.specs.declared.awaited.Awaited.{Awaited}
 use Rattle.worker_choices.specs.declared.stances.Stance.{Stance}
@@ -20,7 +22,7 @@ use Rattle.coordination.specs.Offered.{Telling, TellsQueued, is_queued_in}
 use Rattle.coordination.specs.declared.outside_work.Queued.{Queued}
 use Rattle.coordination.specs.declared.sleepers.Sleepers.{Sleepers}
 use Rattle.coordination.specs.declared.sleepers.Then.{Then}
-use Rattle.coordination.specs.declared.sleepers.Then.TheVariants.{Leaves, Works, Looks as ThenLooks, Decides}
+use Rattle.coordination.specs.declared.sleepers.Then.TheVariants.{Leaves, Works, Looks as ThenLooks}
 use Rattle.coordination.specs.declared.sleepers.Wakes.{Wakes}
 
 -- the stance of a worker that comes again at once, or doesn't
@@ -47,7 +49,6 @@ abbrev pub comes_again : Then → Kind → Bool
 comes_again Leaves kind = false
 comes_again Works kind = is_a_step kind
 comes_again ThenLooks kind = not (goes_to_work kind)
-comes_again Decides kind = true
 
 -- it does behind an answer without an entry, and behind a failed entry
 abbrev pub looks_behind_answers : Then → Bool
@@ -153,12 +154,39 @@ pub record HasWoken (tells : Telling) (w : WorkerId) (behind : Then) (old new : 
 abbrev pub wakes_nobody : Wakes
 wakes_nobody = record { transforms = false; questions = false; workers = woken.Nobody }
 
--- A turn ended once, or twice, and what it woke are those that these ends woke. Of a turn that decides behind a transform, the first
--- end counts on its worker where the transform finished.
+-- A hold goes on behind entries. They wake all questions that wait for any, and all transforms where one of them can let one go on. Who
+-- sleeps apart is looked for at the end of the hold.
+pub record GoesOn (lets : Bool) (old new : Sleepers) (wakes : Wakes) : Type 0 where
+  pub queued : new.queued ≡ old.queued
+  pub behind : new.behind ≡ old.behind
+  pub stances : new.stances ≡ old.stances
+  pub questions : wakes.questions ≡ old.questions
+  pub transforms : wakes.transforms ≡ (old.transforms && lets)
+  pub workers : wakes.workers ≡ woken.Nobody
+  -- who isn't woken sleeps on
+  pub questions_left : new.questions ≡ (old.questions && not wakes.questions)
+  pub transforms_left : new.transforms ≡ (old.transforms && not wakes.transforms)
+
+-- one of the entries can let a transform go on
+abbrev pub entries_let_go_on : List Entry → Bool
+entries_let_go_on entries = list_any (λ e. any_lets_go_on e.changes) entries
+
+-- A worker that was woken or wasn't made these entries in a hold that goes on behind them.
+pub record HasGoneOn (w : WorkerId) (old new : BookView) (sleepers sleepers' : Sleepers) (wakes : Wakes) : Type 0 where
+  pub queued : Queued
+  pub behind : Then
+  pub woken : Bool
+  pub more : List Entry
+  pub some : 0 < length more
+  pub history : new.history ≡ old.history ++ more
+  pub goes : GoesOn (entries_let_go_on more) (begun queued behind (woken_if woken w sleepers)) sleepers' wakes
+
+-- A turn ended its hold, and what it woke are those that this end woke; and where the hold had gone on behind entries, first those that
+-- these woke. Of a turn that decides behind a transform, an end where that didn't finish doesn't count on the worker.
 abbrev pub EndsTurn : Telling → WorkerId → Then → BookView → BookView → Sleepers → Sleepers → Wakes → Wakes → Type 0
 EndsTurn tells w behind old new sleepers sleepers' wakes later =
-    ((first : Then) × ((first ≡ behind) ⊎ (first ≡ Decides)) × HasWoken tells w first old new sleepers sleepers' wakes × (later ≡ wakes_nobody))
-    ⊎ ((between : BookView) × (mid : Sleepers) × HasWoken tells w Decides old between sleepers mid wakes
+    ((first : Then) × ((first ≡ behind) ⊎ (first ≡ Leaves)) × HasWoken tells w first old new sleepers sleepers' wakes × (later ≡ wakes_nobody))
+    ⊎ ((between : BookView) × (mid : Sleepers) × HasGoneOn w old between sleepers mid wakes
     × HasWoken tells w behind between new mid sleepers' later)
 
 -- the worker isn't noted as one that sleeps

@@ -3,7 +3,7 @@ ghost use Rattle.std.specs.Prelude.{◌≡◌, ◌<◌, ◌⊎◌, IfOk, None, f
 ghost use Rattle.worker_choices.specs.Stances.{asleep};
 ghost use Rattle.worker_choices.specs.declared.stances.Stance.TheVariants as stance;
 ghost use Rattle.history_views.specs.ShownBooks.{IsTold};
-ghost use Rattle.coordination.specs.Attempts.{HasAsked, HasHeld};
+ghost use Rattle.coordination.specs.Attempts.{HasAsked, HasHeld, HasRunFirst};
 ghost use Rattle.coordination.specs.Decisions.{HasDecidedHeld, awaits_if};
 ghost use Rattle.coordination.specs.Offered.{TellsQueued};
 ghost use Rattle.coordination.specs.Parts.{IsPartHere};
@@ -14,7 +14,7 @@ use crate::outside_work::{Offers, Queued};
 use crate::parts::Notes;
 use crate::questions::Question;
 use crate::sleepers::{Sleepers, Then, Wakes};
-use crate::slots::{ask_of, decide_on, run_on};
+use crate::slots::{ask_of, decide_on, go_on_by, run_on};
 use crate::turns::Came;
 use history_views::Reach;
 use lock_journal::{Book, Segment};
@@ -131,6 +131,37 @@ impl<O: Offers, K: Runner> Guarded<O, K> {
         self.sleepers.queued = self.queued_for_sleepers();
         self.sleepers.behind = caller.behind;
         let (ran, wakes) = run_on(
+            &mut self.keeper,
+            caller.worker,
+            notes,
+            transform,
+            &mut self.sleepers,
+        );
+        if caller.sleeps && matches!(ran, Ok(Disposition::Retry)) {
+            self.sleepers.transforms = true;
+        }
+        (ran, wakes)
+    }
+
+    /// The same where the hold goes on behind a transform that finishes. Where it doesn't, the end doesn't count on the worker.
+    #[inline]
+    pub(crate) fn run_first<T: Transform>(
+        &mut self,
+        caller: Caller,
+        notes: &mut Notes,
+        transform: &T,
+    ) -> (Result<Disposition, AllocError>, Wakes)
+        requires part { IsPartHere caller.worker (K.book_of self.old.keeper) notes.old.part }
+        requires told { K.ledger_of self.old.keeper ≡ None → notes.old.reach ≡ None }
+        ensures ledger { K.ledger_of self.new.keeper ≡ K.ledger_of self.old.keeper }
+        ensures told { IsTold (K.ledger_of self.new.keeper) notes.new.reach (K.book_of self.new.keeper) }
+        ensures held { HasRunFirst (T.kind_of transform.now) (T.makes transform.now) (T.fails_on transform.now)
+            (T.retries_on transform.now) (O.tells self.old.offers) caller.worker caller.sleeps (K.book_of self.old.keeper)
+            (K.book_of self.new.keeper) notes.new.part self.old.sleepers self.new.sleepers result }
+    {
+        self.sleepers.queued = self.queued_for_sleepers();
+        self.sleepers.behind = Then::Leaves;
+        let (ran, wakes) = go_on_by(
             &mut self.keeper,
             caller.worker,
             notes,

@@ -1,19 +1,26 @@
 //! What a pass keeps of the book for its worker.
-ghost use Rattle.std.specs.Prelude.{◌≡◌, ◌<◌, [], IfOk, OnOk, false, length, true, vec_capacity, vec_len};
+ghost use Rattle.std.specs.Prelude.{◌≡◌, ◌<◌, [], IfOk, IfSome, OnOk, false, length, true, vec_capacity, vec_len};
+ghost use Rattle.lock_transforms.specs.declared.entries.Kind.TheVariants as kinds;
+ghost use Rattle.resource_lock.specs.GraphView.{action_of, task_of};
+ghost use Rattle.resource_lock.specs.Ranges.{lock_with};
+ghost use Rattle.resource_lock.specs.declared.graphs.Retention.TheVariants as retentions;
 ghost use Rattle.resource_lock.specs.declared.marks.MarkId.TheVariants as ids;
 ghost use Rattle.resource_lock.specs.Change.{make_all};
 ghost use Rattle.resource_lock.specs.StateView.{StateView, runs_by};
 ghost use Rattle.lock_journal.specs.BookView.{BookView};
 ghost use Rattle.lock_journal.specs.Changes.{changes_left};
+ghost use Rattle.lock_journal.specs.LastChanges.{last_changes};
 ghost use Rattle.lock_journal.specs.OwnChanges.{mark_before, with_if, with_member, without_if, without_member};
 ghost use Rattle.coordination.specs.SortedLists.{IsRising};
-ghost use Rattle.coordination.specs.Parts.{Follows, HasLockRoom, HasHandedBack, HasMarks, HasRoom, HasRoomFor, IsAfter, IsFreshPart, IsPartOf, IsSamePart, LeadsOn, StandsInOrder};
+ghost use Rattle.coordination.specs.Parts.{CanLead, CanNote, Follows, HasHandedBack, HasLockRoom, HasMarks, HasRoom, HasRoomFor, IsAfter, IsFreshPart};
+ghost use Rattle.coordination.specs.Parts.{IsPartOf, IsSamePart, LeadsOn, LeadsPast, StandsInOrder, parked_with, resumed_with, started};
 
 use crate::sorted_lists::{add, remove};
 use history_views::Reach;
 use lock_journal::{Book, Changes};
+use lock_transforms::kinds::action_of;
 use lock_transforms::{Disposition, Kind};
-use resource_lock::{Change, LockId, Mark, MarkId, WorkerId};
+use resource_lock::{Change, LockId, Mark, MarkId, Retention, WorkerId};
 use std::alloc::{AllocError, Global};
 
 // How many marks a worker runs at most: of a task, of an action and of a unit.
@@ -112,6 +119,9 @@ impl WorkerPart {
                     Kind::Close(closed) => self.note_close(closed.unit),
                     // What it queues ran by no worker, and runs by none then.
                     Kind::Submit(_) => {}
+                    Kind::Start(task) => self.note_start(worker, lock_of(book, task), task),
+                    Kind::Park(action) => self.note_park(worker, book, action),
+                    Kind::Resume(action) => self.note_resume(worker, book, action),
                     _ => self.note_all(worker, book.last_changes()),
                 }
             }
@@ -150,6 +160,82 @@ impl WorkerPart {
         remove(&mut self.claimed, MarkId::Unit(unit));
     }
 
+    // Notes a start: the worker has the task's lock and a lease, and runs the task.
+    #[inline]
+    fn note_start(&mut self, worker: WorkerId, lock: LockId, task: u32)
+        requires { CanLead worker (started worker lock task) self.old }
+        ensures leads { LeadsPast worker (started worker lock task) self.old self.new }
+        ensures last { self.new.last ≡ self.old.last }
+    {
+        let running = Mark::Running(worker);
+        self.note(worker, Change::Lock(lock));
+        self.note(worker, Change::Take);
+        self.note(
+            worker,
+            Change::Move(MarkId::Task(task), Mark::Waiting, running),
+        );
+    }
+
+    // Notes the beginning of a wait for an action's items.
+    #[inline]
+    fn note_park(&mut self, worker: WorkerId, book: &Book, action: u32)
+        requires { CanNote worker (kinds.Park action) book.now self.old }
+        ensures leads { LeadsPast worker (last_changes book.now.history) self.old self.new }
+        ensures last { self.new.last ≡ self.old.last }
+    {
+        match lock_given_back(book, action) {
+            Some(lock) => self.note_parked(worker, lock, action),
+            None => self.note_all(worker, book.last_changes()),
+        }
+    }
+
+    // The same where the worker has parked this lock.
+    #[inline]
+    fn note_parked(&mut self, worker: WorkerId, lock: LockId, action: u32)
+        requires { CanLead worker (parked_with worker lock action) self.old }
+        ensures leads { LeadsPast worker (parked_with worker lock action) self.old self.new }
+        ensures last { self.new.last ≡ self.old.last }
+    {
+        let running = Mark::Running(worker);
+        self.note(worker, Change::Give);
+        self.note(worker, Change::Unlock(lock));
+        self.note(worker, Change::Park(lock));
+        self.note(
+            worker,
+            Change::Move(MarkId::Action(action), Mark::Queued, running),
+        );
+    }
+
+    // Notes the end of such a wait.
+    #[inline]
+    fn note_resume(&mut self, worker: WorkerId, book: &Book, action: u32)
+        requires { CanNote worker (kinds.Resume action) book.now self.old }
+        ensures leads { LeadsPast worker (last_changes book.now.history) self.old self.new }
+        ensures last { self.new.last ≡ self.old.last }
+    {
+        match lock_given_back(book, action) {
+            Some(lock) => self.note_resumed(worker, lock, action),
+            None => self.note_all(worker, book.last_changes()),
+        }
+    }
+
+    // The same where the worker has taken this lock again.
+    #[inline]
+    fn note_resumed(&mut self, worker: WorkerId, lock: LockId, action: u32)
+        requires { CanLead worker (resumed_with worker lock action) self.old }
+        ensures leads { LeadsPast worker (resumed_with worker lock action) self.old self.new }
+        ensures last { self.new.last ≡ self.old.last }
+    {
+        let running = Mark::Running(worker);
+        self.note(worker, Change::Unpark(lock));
+        self.note(worker, Change::Lock(lock));
+        self.note(worker, Change::Take);
+        self.note(
+            worker,
+            Change::Move(MarkId::Action(action), running, Mark::Passed),
+        );
+    }
+
     // Notes changes of the worker in order.
     #[inline(never)]
     fn note_all(&mut self, worker: WorkerId, changes: Changes<'_>)
@@ -163,7 +249,8 @@ impl WorkerPart {
         }
     }
 
-    // Notes a change of the worker.
+    // Notes a change of the worker. Where it is known which, that alone is left of this.
+    #[inline(always)]
     fn note(&mut self, worker: WorkerId, change: Change)
         requires room { HasRoomFor worker self.old change }
         requires order { StandsInOrder self.old }
@@ -185,7 +272,31 @@ impl WorkerPart {
     }
 }
 
+// The lock of a task.
+#[inline]
+fn lock_of(book: &Book, task: u32) -> LockId
+    requires { task < length book.now.graph.tasks }
+    ensures { result ≡ (task_of book.now.graph task).lock }
+{
+    book.graph().tasks().at(task as usize).lock
+}
+
+// The lock of an action's task, where that is given back while the action's items are waited for, and taken again.
+#[inline]
+fn lock_given_back(book: &Book, action: u32) -> Option<LockId>
+    requires { action < length book.now.graph.actions }
+    ensures again { IfSome result (λ _. (action_of book.now.graph action).retention ≡ retentions.ReleaseAndReacquire) }
+    ensures lock { IfSome result (λ lock. lock ≡ lock_with book.now.graph action) }
+{
+    let waited = action_of(book.graph(), action);
+    match waited.retention {
+        Retention::ReleaseAndReacquire => Some(lock_of(book, waited.task)),
+        Retention::Retain | Retention::Release => None,
+    }
+}
+
 // The marks that run by a worker, after it has moved one.
+#[inline(always)]
 fn note_move(claimed: &mut Vec<MarkId>, worker: WorkerId, id: MarkId, from: Mark, to: Mark)
     requires rises { IsRising mark_before claimed.old.items }
     requires room { runs_by worker to ≡ true → length (without_if mark_before (runs_by worker from) id claimed.old.items) < vec_capacity claimed.old }

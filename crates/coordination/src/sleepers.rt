@@ -1,10 +1,11 @@
 //! Who sleeps, and whom the end of a hold of the state lock wakes.
-ghost use Rattle.std.specs.Prelude.{◌≡◌, ◌<◌, IfOk, false, length, replicate, true};
+ghost use Rattle.std.specs.Prelude.{◌≡◌, ◌≢◌, ◌<◌, IfOk, Ok, false, length, replicate, true};
 ghost use Rattle.coordination.specs.declared.outside_work.Queued.TheVariants as queued;
 ghost use Rattle.coordination.specs.declared.sleepers.Then.TheVariants as thens;
+ghost use Rattle.worker_choices.specs.GoingOn.{last_lets_go_on};
 ghost use Rattle.worker_choices.specs.declared.stances.Stance.TheVariants as stance;
 ghost use Rattle.coordination.specs.Decisions.{noted_deciding};
-ghost use Rattle.coordination.specs.SleepAndWake.{EndsHold, begun, comes_again, goes_to_work, has_entered, is_a_step, looks_behind_answers};
+ghost use Rattle.coordination.specs.SleepAndWake.{EndsHold, GoesOn, begun, comes_again, goes_to_work, has_entered, is_a_step, looks_behind_answers};
 ghost use Rattle.coordination.specs.SleepAndWake.{looks_if, stance_after, stance_asking, woken_if};
 
 use crate::outside_work::Queued;
@@ -26,8 +27,6 @@ pub enum Then {
     Works,
     /// It comes again at once, but behind a claim and the entry of a blocking section.
     Looks,
-    /// It decides in the same hold where its transform finishes.
-    Decides,
 }
 
 /// Who may be asleep, who looks, and what they all wait for beside the book.
@@ -186,6 +185,46 @@ impl Sleepers {
         self.end_hold(book, worker, looks_if(again), entered)
     }
 
+    /// Notes an entry behind which the hold goes on. It wakes questions and transforms as at the end of a hold. Who sleeps apart is
+    /// looked for at the end.
+    #[inline(always)]
+    pub(crate) fn go_on(&mut self, book: &Book) -> Wakes
+        requires { book.now.given < length book.now.history }
+        ensures { GoesOn (last_lets_go_on book.now.history) self.old self.new result }
+    {
+        let transforms = self.transforms && last_lets_go_on(book);
+        let questions = self.questions;
+        self.transforms = self.transforms && !transforms;
+        self.questions = self.questions && !questions;
+        Wakes {
+            transforms,
+            questions,
+            workers: Woken::Nobody,
+        }
+    }
+
+    /// Goes on behind a transform of this kind that finished, and else ends the hold in which it was run.
+    #[inline(always)]
+    pub(crate) fn go_on_or_end(
+        &mut self,
+        book: &Book,
+        worker: WorkerId,
+        kind: Kind,
+        ran: &Result<Disposition, AllocError>,
+    ) -> Wakes
+        requires { has_entered ran.now ≡ true → book.now.given < length book.now.history }
+        ensures goes { ran.now ≡ Ok Disposition.Finished → GoesOn (last_lets_go_on book.now.history) self.old self.new result }
+        ensures ends { ran.now ≢ Ok Disposition.Finished
+            → EndsHold book.now worker (stance_after self.old.behind kind ran.now) (has_entered ran.now) self.old self.new result }
+    {
+        match ran {
+            Ok(Disposition::Finished) => self.go_on(book),
+            Ok(Disposition::Failed | Disposition::Retry) | Err(_) => {
+                self.end_transform(book, worker, kind, ran)
+            }
+        }
+    }
+
     /// Ends the hold in which a question was asked.
     #[inline]
     pub(crate) fn end_question<A>(
@@ -216,7 +255,6 @@ impl Then {
             Then::Leaves => false,
             Then::Works => is_a_step(kind),
             Then::Looks => !goes_to_work(kind),
-            Then::Decides => true,
         }
     }
 

@@ -1,6 +1,6 @@
 //! The steps on the table.
 ghost use Rattle.std.specs.Prelude.{◌≡◌, ◌≢◌, ◌<◌, ◌≤◌, ◌+◌, ◌-◌, ◌^◌, [], ◌∷◌, length, true, false, IfNone, IfSome, None};
-ghost use Rattle.coordination.specs.Attempts.{Answers, HasRun, Ran};
+ghost use Rattle.coordination.specs.Attempts.{Answers, HasRun, HasRunOn, Ran};
 ghost use Rattle.coordination.specs.Decisions.{DecideGives, EndsDecision, HadStep, carried_out};
 ghost use Rattle.coordination.specs.SleepAndWake.{EndsHold, stance_asking};
 ghost use Rattle.history_views.specs.ShownBooks.{IsTold};
@@ -261,6 +261,31 @@ pub(crate) fn run_on<K: Runner, T: Transform>(
     let book = keeper.book();
     notes.part.follow(worker, kind, book, &ran);
     let wakes = sleepers.end_transform(book, worker, kind, &ran);
+    keeper.tell(&mut notes.reach);
+    (ran, wakes)
+}
+
+// The same where the hold goes on behind a transform that finishes.
+#[inline]
+pub(crate) fn go_on_by<K: Runner, T: Transform>(
+    keeper: &mut K,
+    worker: WorkerId,
+    notes: &mut Notes,
+    transform: &T,
+    sleepers: &mut Sleepers,
+) -> (Result<Disposition, AllocError>, Wakes)
+    requires part { IsPartHere worker (K.book_of keeper.old) notes.old.part }
+    requires told { K.ledger_of keeper.old ≡ None → notes.old.reach ≡ None }
+    ensures ledger { K.ledger_of keeper.new ≡ K.ledger_of keeper.old }
+    ensures told { IsTold (K.ledger_of keeper.new) notes.new.reach (K.book_of keeper.new) }
+    ensures run { HasRunOn (T.kind_of transform.now) (T.makes transform.now) (T.fails_on transform.now)
+        (T.retries_on transform.now) worker (K.book_of keeper.old) (K.book_of keeper.new) notes.new.part sleepers.old sleepers.new result }
+{
+    let kind = transform.kind();
+    let ran = run_with_room(keeper, worker, &notes.part, transform);
+    let book = keeper.book();
+    notes.part.follow(worker, kind, book, &ran);
+    let wakes = sleepers.go_on_or_end(book, worker, kind, &ran);
     keeper.tell(&mut notes.reach);
     (ran, wakes)
 }

@@ -16,7 +16,7 @@ use crate::keepers::Runner;
 use crate::outside_work::Offers;
 use crate::parts::Notes;
 use crate::questions::Question;
-use crate::sleepers::{Then, Wakes};
+use crate::sleepers::Wakes;
 use lock_transforms::{Disposition, Transform};
 use std::alloc::AllocError;
 
@@ -236,11 +236,7 @@ where
         caller: Caller,
         notes: &mut Notes,
     ) -> (Came<Followed<Q::Answer>>, Wakes, Wakes) {
-        let first = Caller {
-            behind: Then::Decides,
-            ..caller
-        };
-        let (ran, wakes) = guarded.run_held(first, notes, self.transform);
+        let (ran, wakes) = guarded.run_first(caller, notes, self.transform);
         match came_of(ran) {
             Came::Done(true) => {
                 let (came, later) = guarded.decide_held(

@@ -1,11 +1,14 @@
-use Rattle.std.proofs.Common.{rules, List, [], Ok, sym, ◌∙◌, subst}
+use Rattle.std.proofs.Common.{rules, ◌<◌, List, [], length, Ok, sym, ◌∙◌, subst}
 use Rattle.resource_lock.specs.Change.{make_all}
+use Rattle.resource_lock.specs.GraphView.{GraphView}
+use Rattle.resource_lock.specs.declared.ids.LockId.{LockId}
 use Rattle.resource_lock.specs.declared.changes.Change.{Change}
 use Rattle.lock_transforms.specs.declared.transforms.Disposition.TheVariants.{Finished, Failed}
-use Rattle.coordination.specs.Parts.{Follows, LeadsOn}
+use Rattle.coordination.specs.Parts.{Follows, LeadsOn, started}
 use Rattle.coordination.specs.declared.parts.WorkerPart.{WorkerPart}
 use Rattle.coordination.proofs.Following.{room_behind}
 use Rattle.coordination.proofs.HandedBack.{part_handed_back, room_handed_back}
+use Rattle.coordination.proofs.KnownChanges.{can_note, lead_as, part_noted, past_as, room_noted, start_list}
 use Rattle.coordination.proofs.ItemEntries.{part_claimed, part_closed, part_submitted, room_kept, room_to_claim}
 use Rattle.coordination.proofs.Rising.{marks_rise}
 use Rattle.coordination.proofs.lemmas.Entries.{changes_made, finished_as, follows_at, last_kept, leads_from, part_of_all, part_failed}
@@ -95,3 +98,55 @@ returns-in-Close-clause-room c = room_kept c.args.self.now c.note_close.new.self
 
 pub returns-in-Submit-clause-part : goal.returns-in-Submit-clause-part
 returns-in-Submit-clause-part c = part_submitted (finished_as c.requires.1 (search rules) c.in-Submit.is) c.len-self.result c.len-self.ensures.value
+
+pub lock_of-requires : goal.lock_of-requires
+lock_of-requires c =
+    let f = finished_as c.requires.1 (search rules) c.in-Start.is in
+    subst (λ (g : GraphView). c.in-Start.task < length g.tasks) (sym f.graph) f.grew.1.allowed.kind
+
+pub note_start-requires : goal.note_start-requires
+note_start-requires c =
+    let f = finished_as c.requires.1 (search rules) c.in-Start.is in
+    let can = can_note f c.len-self.result f.grew.1.allowed.finished.list in
+    let l : LockId = c.lock_of.result in
+    lead_as can (started c.args.worker l c.in-Start.task) (start_list c.args.book.now.graph can.state c.args.worker c.in-Start.task l c.lock_of.ensures)
+
+pub returns-in-Start-clause-part : goal.returns-in-Start-clause-part
+returns-in-Start-clause-part c =
+    let f = finished_as c.requires.1 (search rules) c.in-Start.is in
+    let can = can_note f c.len-self.result f.grew.1.allowed.finished.list in
+    let l : LockId = c.lock_of.result in
+    let led = past_as can (started c.args.worker l c.in-Start.task) (start_list c.args.book.now.graph can.state c.args.worker c.in-Start.task l c.lock_of.ensures) c.note_start.new.self c.note_start.ensures.leads in
+    part_noted f c.len-self.result c.note_start.new.self led c.note_start.ensures.last c.len-self.ensures.value
+
+pub returns-in-Start-clause-room : goal.returns-in-Start-clause-room
+returns-in-Start-clause-room c =
+    let f = finished_as c.requires.1 (search rules) c.in-Start.is in
+    let can = can_note f c.len-self.result f.grew.1.allowed.finished.list in
+    let l : LockId = c.lock_of.result in
+    let led = past_as can (started c.args.worker l c.in-Start.task) (start_list c.args.book.now.graph can.state c.args.worker c.in-Start.task l c.lock_of.ensures) c.note_start.new.self c.note_start.ensures.leads in
+    room_noted f c.len-self.result c.note_start.new.self led
+
+pub note_park-requires : goal.note_park-requires
+note_park-requires c =
+    let f = finished_as c.requires.1 (search rules) c.in-Park.is in
+    can_note f c.len-self.result f.grew.1.allowed.finished.list
+
+pub returns-in-Park-clause-part : goal.returns-in-Park-clause-part
+returns-in-Park-clause-part c =
+    part_noted (finished_as c.requires.1 (search rules) c.in-Park.is) c.len-self.result c.note_park.new.self c.note_park.ensures.leads c.note_park.ensures.last c.len-self.ensures.value
+
+pub returns-in-Park-clause-room : goal.returns-in-Park-clause-room
+returns-in-Park-clause-room c = room_noted (finished_as c.requires.1 (search rules) c.in-Park.is) c.len-self.result c.note_park.new.self c.note_park.ensures.leads
+
+pub note_resume-requires : goal.note_resume-requires
+note_resume-requires c =
+    let f = finished_as c.requires.1 (search rules) c.in-Resume.is in
+    can_note f c.len-self.result f.grew.1.allowed.finished.list
+
+pub returns-in-Resume-clause-part : goal.returns-in-Resume-clause-part
+returns-in-Resume-clause-part c =
+    part_noted (finished_as c.requires.1 (search rules) c.in-Resume.is) c.len-self.result c.note_resume.new.self c.note_resume.ensures.leads c.note_resume.ensures.last c.len-self.ensures.value
+
+pub returns-in-Resume-clause-room : goal.returns-in-Resume-clause-room
+returns-in-Resume-clause-room c = room_noted (finished_as c.requires.1 (search rules) c.in-Resume.is) c.len-self.result c.note_resume.new.self c.note_resume.ensures.leads
