@@ -1,16 +1,9 @@
 -- An item's closing, and what is decided behind it.
 use Rattle.std.proofs.Common.{◌≡◌, Option, Result, Ok, Err, inl, inr, subst, sym}
 use Rattle.std.specs.Prelude.{IfOk, IsErrAnd, MatchResult}
-use Rattle.resource_lock.specs.declared.ids.WorkerId.{WorkerId}
-use Rattle.lock_journal.specs.BookView.{BookView}
-use Rattle.lock_transforms.specs.Allowed.{IsFixedList}
-use Rattle.lock_transforms.specs.declared.entries.Closed.{Closed}
-use Rattle.lock_transforms.specs.declared.entries.Kind.{Kind}
+use Rattle.lock_journal.specs.Names.{WorkerId, BookView, IsFixedList, Closed, Kind}
 use Rattle.lock_transforms.specs.declared.entries.Kind.TheVariants as kinds
-use Rattle.coordination.specs.Attempts.{Cause, Making}
-use Rattle.coordination.specs.Calls.{HasFinished}
-use Rattle.coordination.specs.Decisions.{HadStep, HasDecided}
-use Rattle.coordination.specs.RunThenDecide.{HasDecidedBehind, HasFollowed}
+use Rattle.coordination.specs.Names.{Cause, Making, HasFinished, HadStep, HasDecided, HasDecidedBehind, HasFollowed}
 use Rattle.coordination.specs.declared.decisions.Decided.{Decided}
 use Rattle.coordination.specs.declared.decisions.Followed.{Followed}
 use Rattle.coordination.specs.declared.decisions.Followed.TheVariants as followed

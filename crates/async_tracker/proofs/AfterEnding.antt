@@ -1,18 +1,10 @@
 -- A task's end, and what is decided behind it.
 use Rattle.std.proofs.Common.{◌≡◌, ◌⊎◌, ℕ, Bool, List, Option, Result, Ok, Err, inl, inr, refl, ◌∙◌, subst}
 use Rattle.std.specs.Prelude.{IfOk, OnErr}
-use Rattle.resource_lock.specs.declared.ids.LockId.{LockId}
-use Rattle.resource_lock.specs.declared.ids.WorkerId.{WorkerId}
-use Rattle.resource_lock.specs.declared.marks.MarkId.{MarkId}
-use Rattle.lock_journal.specs.BookView.{BookView}
-use Rattle.lock_transforms.specs.Allowed.{IsFixedList}
-use Rattle.lock_transforms.specs.declared.entries.Kind.{Kind}
+use Rattle.lock_journal.specs.Names.{LockId, WorkerId, MarkId, BookView, IsFixedList, Kind}
 use Rattle.lock_transforms.specs.declared.entries.Kind.TheVariants as kinds
-use Rattle.coordination.specs.Attempts.{Cause, Making}
-use Rattle.coordination.specs.Calls.{AskedInVain, HasFinished}
-use Rattle.coordination.specs.Decisions.{CouldNotStep, HadStep, HasDecided}
-use Rattle.coordination.specs.RunThenDecide.{HasDecidedBehind, HasFollowed}
-use Rattle.coordination.specs.Shown.{Shows, ShowsTheSame}
+use Rattle.coordination.specs.Names.{Cause, Making, AskedInVain, HasFinished, CouldNotStep, HadStep, HasDecided, HasDecidedBehind, HasFollowed, Shows}
+use Rattle.coordination.specs.Names.{ShowsTheSame}
 use Rattle.coordination.specs.declared.decisions.Decided.{Decided}
 use Rattle.coordination.specs.declared.decisions.Followed.{Followed}
 use Rattle.coordination.specs.declared.decisions.Followed.TheVariants as followed

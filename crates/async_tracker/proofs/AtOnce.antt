@@ -5,32 +5,21 @@ use Rattle.std.specs.List.{list_any, range_with_len}
 use Rattle.std.proofs.lemmas.Bool.{and_from, and_parts, cases_eq, eq-eqb, false≢true, false_from_ne_true, not_from_false, true_from_ne_false}
 use Rattle.std.proofs.lemmas.List.Folds.{list_any_at}
 use Rattle.std.proofs.lemmas.List.FromFn.{get_or-range_with_len, length-range_with_len}
-use Rattle.resource_lock.specs.Change.{can, make, same_mark}
-use Rattle.resource_lock.specs.Good.{Good}
-use Rattle.resource_lock.specs.Fits.{Fits}
-use Rattle.resource_lock.specs.GraphView.{GraphView, action_of, task_of}
-use Rattle.resource_lock.specs.Ranges.{IsIn, lock_with, task_with}
-use Rattle.resource_lock.specs.StateView.{Holding, StateView, holding_of, is_parked, mark_of, runs_unit, IsWorkerOf}
-use Rattle.resource_lock.specs.declared.changes.Change.TheVariants.{Move}
-use Rattle.resource_lock.specs.declared.ids.WorkerId.{WorkerId}
-use Rattle.resource_lock.specs.declared.marks.Mark.TheVariants.{Waiting, Queued, Running}
-use Rattle.resource_lock.specs.declared.marks.MarkId.TheVariants.{Task as TaskOf, Action as ActionOf, Unit as UnitOf}
+use Rattle.lock_journal.specs.Names.{can, make, same_mark, Good, Fits, GraphView, action_of, task_of, IsIn, lock_with, task_with, Holding, StateView}
+use Rattle.lock_journal.specs.Names.{holding_of, is_parked, mark_of, runs_unit, IsWorkerOf, Move, WorkerId, Waiting, Queued, Running, TaskOf}
+use Rattle.lock_journal.specs.Names.{ActionOf, UnitOf, condition, earlier_passed, is_enabled, works_on, Block, End, Park, Resume, Submit, BookView}
+use Rattle.lock_journal.specs.Names.{is_unit}
 use Rattle.resource_lock.proofs.lemmas.Kept.{kept}
 use Rattle.resource_lock.proofs.lemmas.Runs.{worker_from}
 use Rattle.resource_lock.proofs.lemmas.Undo.{same_mark_is}
-use Rattle.lock_transforms.specs.Table.{condition, earlier_passed, is_enabled, works_on}
-use Rattle.lock_transforms.specs.declared.entries.Kind.TheVariants.{Block, End, Park, Resume, Submit}
 use Rattle.lock_transforms.proofs.SetDown.{can_set_down}
-use Rattle.lock_journal.specs.BookView.{BookView}
-use Rattle.lock_journal.specs.Own.{is_unit}
 use Rattle.lock_journal.proofs.Queue.{queued_is_item}
 use Rattle.lock_journal.proofs.Kept.{IsKept}
 use Rattle.lock_journal.proofs.Runs.{holds_after}
 use Rattle.lock_journal.proofs.lemmas.Claims.{action_claimed, task_runs, unit_claimed}
 use Rattle.lock_journal.proofs.lemmas.Fitting.{apart_of}
 use Rattle.worker_choices.specs.NextSteps.{CanGoOn}
-use Rattle.coordination.specs.Agrees.{Finds}
-use Rattle.coordination.specs.Shown.{claimed_shown}
+use Rattle.coordination.specs.Names.{Finds, claimed_shown}
 use Rattle.coordination.specs.declared.rule.Sight.{Sight}
 use Rattle.coordination.proofs.lemmas.Entries.{belongs_sound, good_sound}
 use Rattle.async_tracker.specs.ParkedView.{ParkedView}

@@ -2,24 +2,12 @@
 use Rattle.std.proofs.Common.{◌≡◌, ◌≢◌, ℕ, ◌<◌, Bool, true, false, not, ◌&&◌, ◌||◌, inl, inr, refl, sym, ap, ◌∙◌, subst}
 use Rattle.std.specs.Prelude.{Contains, nat_lt}
 use Rattle.std.proofs.lemmas.Bool.{and_from, eq-eqb, false≢true, false_from_ne_true}
-use Rattle.resource_lock.specs.Change.{can, make, same_mark}
-use Rattle.resource_lock.specs.GraphView.{GraphView}
-use Rattle.resource_lock.specs.Ranges.{is_item}
-use Rattle.resource_lock.specs.StateView.{Holding, StateView, holding_of, is_idle, is_parked, leases_out, mark_of, runs_by, runs_unit}
-use Rattle.resource_lock.specs.declared.ids.WorkerId.{WorkerId}
-use Rattle.resource_lock.specs.declared.marks.Mark.TheVariants.{Queued, Running}
-use Rattle.resource_lock.specs.declared.marks.MarkId.TheVariants.{Unit as UnitOf}
-use Rattle.resource_lock.specs.declared.changes.Change.TheVariants.{Move, Take}
+use Rattle.lock_journal.specs.Names.{can, make, same_mark, GraphView, is_item, Holding, StateView, holding_of, is_idle, is_parked, leases_out}
+use Rattle.lock_journal.specs.Names.{mark_of, runs_by, runs_unit, WorkerId, Queued, Running, UnitOf, Move, Take, IsDisabled, IsFixedList, BookView}
+use Rattle.lock_journal.specs.Names.{condition, is_enabled, mark_from, Claim, Close, mark_before, with_if, without_if}
 use Rattle.item_actions.specs.declared.outcomes.Outcome.{Outcome}
 use Rattle.item_actions.specs.declared.outcomes.Outcome.TheVariants as outcomes
-use Rattle.lock_transforms.specs.Allowed.{IsDisabled, IsFixedList}
-use Rattle.lock_journal.specs.BookView.{BookView}
-use Rattle.lock_transforms.specs.Table.{condition, is_enabled, mark_from}
-use Rattle.lock_transforms.specs.declared.entries.Kind.TheVariants.{Claim, Close}
-use Rattle.lock_journal.specs.OwnChanges.{mark_before, with_if, without_if}
-use Rattle.coordination.specs.Agrees.{Finds}
-use Rattle.coordination.specs.Calls.{HasFinished}
-use Rattle.coordination.specs.Shown.{claimed_shown, lease_shown}
+use Rattle.coordination.specs.Names.{Finds, HasFinished, claimed_shown, lease_shown}
 use Rattle.coordination.specs.declared.rule.Sight.{Sight}
 use Rattle.async_tracker.specs.Shows.{IsFree, IsIdleOrParked, IsItemHere, ShowsClaimed, ShowsClosed}
 use Rattle.async_tracker.specs.Waits.{NeedsLease}

@@ -6,34 +6,19 @@ use Rattle.std.proofs.lemmas.Bool.{and_from, and_parts, eq-eqb, false≢true, fa
 use Rattle.std.proofs.lemmas.List.{get_or-set_other, get_or-set_same, get_or_push, length_push}
 use Rattle.std.proofs.lemmas.Option.{slice_get-get_or}
 use Rattle.std.proofs.lemmas.List.Folds.{list_any-append}
-use Rattle.resource_lock.specs.Change.{can, can_all, holding_after, make, make_all, same_mark, is_lock, stands_last}
-use Rattle.resource_lock.specs.Good.{Good}
-use Rattle.resource_lock.specs.GraphView.{GraphView, action_of}
-use Rattle.resource_lock.specs.Ranges.{items_of, lock_with, task_with}
-use Rattle.resource_lock.specs.StateView.{Holding, StateView, has_parked, holding_of, is_owner, is_parked, mark_of, owns, stands_in, IsLockOf, IsWorkerOf}
+use Rattle.lock_journal.specs.Names.{can, can_all, holding_after, make, make_all, same_mark, stands_last, Good, GraphView, action_of, items_of}
+use Rattle.lock_journal.specs.Names.{lock_with, task_with, Holding, StateView, has_parked, holding_of, is_owner, is_parked, mark_of, owns, stands_in}
+use Rattle.lock_journal.specs.Names.{IsLockOf, IsWorkerOf, Change, Unlock, Give, Move, ParkLock, Retention, Retain, Release, ReleaseAndReacquire}
+use Rattle.lock_journal.specs.Names.{LockId, WorkerId, Waiting, Queued, Running, MarkId, TaskOf, ActionOf, UnitOf, IsDisabled, IsFixedList, BookView}
+use Rattle.lock_journal.specs.Names.{condition, is_enabled, moved_units, on_park, owned, works_on, Submit, Park, after_all, claimed_after}
+use Rattle.lock_journal.specs.Names.{locks_after, mark_before, with_if, with_member, is_action, is_unit}
+use Rattle.resource_lock.specs.Change.{is_lock}
 use Rattle.resource_lock.proofs.lemmas.Kept.{kept}
 use Rattle.resource_lock.proofs.lemmas.Runs.{worker_from}
-use Rattle.resource_lock.specs.declared.changes.Change.{Change}
-use Rattle.resource_lock.specs.declared.changes.Change.TheVariants.{Unlock, Give, Move, Park as ParkLock}
-use Rattle.resource_lock.specs.declared.graphs.Retention.{Retention}
-use Rattle.resource_lock.specs.declared.graphs.Retention.TheVariants.{Retain, Release, ReleaseAndReacquire}
-use Rattle.resource_lock.specs.declared.ids.LockId.{LockId}
-use Rattle.resource_lock.specs.declared.ids.WorkerId.{WorkerId}
-use Rattle.resource_lock.specs.declared.marks.Mark.TheVariants.{Waiting, Queued, Running}
-use Rattle.resource_lock.specs.declared.marks.MarkId.{MarkId}
-use Rattle.resource_lock.specs.declared.marks.MarkId.TheVariants.{Task as TaskOf, Action as ActionOf, Unit as UnitOf}
-use Rattle.lock_transforms.specs.Allowed.{IsDisabled, IsFixedList}
-use Rattle.lock_journal.specs.BookView.{BookView}
-use Rattle.lock_transforms.specs.Table.{condition, is_enabled, moved_units, on_park, owned, works_on}
-use Rattle.lock_transforms.specs.declared.entries.Kind.TheVariants.{Submit, Park}
-use Rattle.lock_journal.specs.OwnChanges.{after_all, claimed_after, locks_after, mark_before, with_if, with_member}
-use Rattle.coordination.specs.Agrees.{Finds}
-use Rattle.coordination.specs.Calls.{HasFinished}
-use Rattle.coordination.specs.Shown.{ShowsTheSame, claimed_shown, lease_shown, locks_shown, parked_shown}
+use Rattle.coordination.specs.Names.{Finds, HasFinished, ShowsTheSame, claimed_shown, lease_shown, locks_shown, parked_shown}
 use Rattle.coordination.specs.declared.rule.Sight.{Sight}
 use Rattle.coordination.proofs.lemmas.Entries.{belongs_sound, good_sound}
 use Rattle.coordination.proofs.lemmas.Shown.{Leaves, shows_left}
-use Rattle.lock_journal.specs.Own.{is_action, is_unit}
 use Rattle.async_tracker.specs.Shows.{HasParkedLast, HasReleased, IsFree, IsIdleOrParked, IsParkedBy, OwnsToPark, ShowsParked, WorksOn, locks_on_park, parked_on_park}
 use Rattle.async_tracker.specs.ParkedView.{ParkedView}
 use Rattle.async_tracker.specs.Waits.{ActionIsNotQueued, CannotQueue, can_queue}

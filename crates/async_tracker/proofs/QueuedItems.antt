@@ -3,29 +3,12 @@ use Rattle.std.proofs.Common.{◌≡◌, ℕ, ◌<◌, Bool, true, false, List, 
 use Rattle.std.specs.Prelude.{Contains}
 use Rattle.std.specs.List.{list_any}
 use Rattle.std.proofs.lemmas.List.{get_or-set_same}
-use Rattle.resource_lock.specs.Change.{make, make_all, with_mark}
-use Rattle.resource_lock.specs.GraphView.{GraphView, action_of}
-use Rattle.resource_lock.specs.Ranges.{items_of, lock_with, task_with}
-use Rattle.resource_lock.specs.StateView.{IsMarkOf, StateView, mark_of, stands_in}
-use Rattle.resource_lock.specs.declared.changes.Change.{Change}
-use Rattle.resource_lock.specs.declared.changes.Change.TheVariants.{Move}
-use Rattle.resource_lock.specs.declared.graphs.Retention.{Retention}
-use Rattle.resource_lock.specs.declared.graphs.Retention.TheVariants.{Retain, Release, ReleaseAndReacquire}
-use Rattle.resource_lock.specs.declared.ids.LockId.{LockId}
-use Rattle.resource_lock.specs.declared.ids.WorkerId.{WorkerId}
-use Rattle.resource_lock.specs.declared.marks.Mark.TheVariants.{Waiting, Queued}
-use Rattle.resource_lock.specs.declared.marks.MarkId.{MarkId}
-use Rattle.resource_lock.specs.declared.marks.MarkId.TheVariants.{Task as TaskOf, Action as ActionOf, Unit as UnitOf}
-use Rattle.lock_journal.specs.BookView.{BookView}
-use Rattle.lock_transforms.specs.Allowed.{IsDisabled, IsFixedList}
-use Rattle.lock_transforms.specs.Table.{moved_units}
-use Rattle.lock_transforms.specs.declared.entries.Kind.TheVariants.{Submit, Park}
+use Rattle.lock_journal.specs.Names.{make, make_all, GraphView, action_of, items_of, lock_with, task_with, IsMarkOf, StateView, mark_of, stands_in}
+use Rattle.lock_journal.specs.Names.{Change, Move, Retention, Retain, Release, ReleaseAndReacquire, LockId, WorkerId, Waiting, Queued, MarkId, TaskOf}
+use Rattle.lock_journal.specs.Names.{ActionOf, UnitOf, BookView, IsDisabled, IsFixedList, moved_units, Submit, Park, is_action, is_unit}
+use Rattle.resource_lock.specs.Change.{with_mark}
 use Rattle.lock_transforms.specs.declared.kinds.parks.Park.{Park as ParkOf}
-use Rattle.lock_journal.specs.Own.{is_action, is_unit}
-use Rattle.coordination.specs.Calls.{HasFinished, HasLooked}
-use Rattle.coordination.specs.Offered.{AsTold, Telling, WaitsAsTold}
-use Rattle.coordination.specs.RunThenDecide.{HasFollowed}
-use Rattle.coordination.specs.Shown.{ShowsTheSame, claimed_shown, lease_shown}
+use Rattle.coordination.specs.Names.{HasFinished, HasLooked, AsTold, Telling, WaitsAsTold, HasFollowed, ShowsTheSame, claimed_shown, lease_shown}
 use Rattle.coordination.specs.declared.decisions.Decided.TheVariants as decided
 use Rattle.coordination.specs.declared.decisions.Followed.{Followed}
 use Rattle.coordination.specs.declared.decisions.Followed.TheVariants as followed

@@ -6,26 +6,14 @@ use Rattle.std.proofs.lemmas.Bool.{and_from, and_parts, eq-eqb, eqb-true, falseâ
 use Rattle.std.proofs.lemmas.List.Folds.{Any-from_list_any, list_any_at}
 use Rattle.item_actions.specs.declared.outcomes.Outcome.{Outcome}
 use Rattle.item_actions.specs.declared.outcomes.Outcome.TheVariants.{Number, Digest}
-use Rattle.resource_lock.specs.Change.{can_all, make_all, same_mark}
-use Rattle.resource_lock.specs.Fits.{Fits}
-use Rattle.resource_lock.specs.GraphView.{GraphView, action_of}
-use Rattle.resource_lock.specs.Opening.{opening_of}
-use Rattle.resource_lock.specs.Ranges.{IsActionOf, IsFetchOf, IsItemOf, IsUnitOf, fetches, first_item, is_item, task_with}
-use Rattle.resource_lock.specs.Shape.{BelongsTo}
-use Rattle.resource_lock.specs.StateView.{StateView, mark_of, runs_by, runs_unit}
-use Rattle.resource_lock.specs.declared.changes.Change.{Change}
-use Rattle.resource_lock.specs.declared.ids.WorkerId.{WorkerId}
-use Rattle.resource_lock.specs.declared.marks.Mark.{Mark}
-use Rattle.resource_lock.specs.declared.marks.Mark.TheVariants.{Waiting, Queued, Running, Passed, Failed, Skipped}
-use Rattle.resource_lock.specs.declared.marks.MarkId.{MarkId}
-use Rattle.resource_lock.specs.declared.marks.MarkId.TheVariants.{Task as TaskOf, Action as ActionOf, Unit as UnitOf}
+use Rattle.lock_journal.specs.Names.{can_all, make_all, same_mark, Fits, GraphView, action_of, opening_of, IsActionOf, IsFetchOf, IsItemOf, IsUnitOf}
+use Rattle.lock_journal.specs.Names.{fetches, first_item, is_item, task_with, BelongsTo, StateView, mark_of, runs_by, runs_unit, Change, WorkerId}
+use Rattle.lock_journal.specs.Names.{Mark, Waiting, Queued, Running, Passed, Failed, Skipped, MarkId, TaskOf, ActionOf, UnitOf, Finishes, IsKindOf}
+use Rattle.lock_journal.specs.Names.{IsListOf, Lawful, lawful_from, Entry, changed, effect, replay, replay_from, condition, earlier_passed}
+use Rattle.lock_journal.specs.Names.{fetch_closed, has_passed, list_of, mark_from, works_on, Kind, Start, Skip, Submit, Park, Resume, Claim, Close}
+use Rattle.lock_journal.specs.Names.{Block, Unblock, End}
 use Rattle.resource_lock.proofs.lemmas.Undo.{same_mark_is}
 use Rattle.resource_lock.proofs.lemmas.Units.{is_item_from}
-use Rattle.lock_transforms.specs.Allowed.{Finishes, IsKindOf, IsListOf, Lawful, lawful_from}
-use Rattle.lock_transforms.specs.Entry.{Entry, changed, effect, replay, replay_from}
-use Rattle.lock_transforms.specs.Table.{condition, earlier_passed, fetch_closed, has_passed, list_of, mark_from, works_on}
-use Rattle.lock_transforms.specs.declared.entries.Kind.{Kind}
-use Rattle.lock_transforms.specs.declared.entries.Kind.TheVariants.{Start, Skip, Submit, Park, Resume, Claim, Close, Block, Unblock, End}
 use Rattle.lock_journal.proofs.Finished.{HasMoved, has_moved}
 use Rattle.lock_journal.proofs.Marks.{AllMoves-weaker, GoesTo, Names, StaysOrMoves, moves_to, stays_or_moves}
 use Rattle.lock_journal.proofs.MarkConditions.{mark_condition}

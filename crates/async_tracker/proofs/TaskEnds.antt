@@ -4,26 +4,13 @@ use Rattle.std.specs.Prelude.{IfSome, if◌then◌else◌}
 use Rattle.std.specs.List.{list_all, list_any}
 use Rattle.std.proofs.lemmas.Bool.{and_from, and_parts, eq-eqb, false≢true, or_right}
 use Rattle.std.proofs.lemmas.List.Folds.{list_any_at}
-use Rattle.resource_lock.specs.Change.{can_all, make_all, same_mark}
-use Rattle.resource_lock.specs.Fits.{Fits}
-use Rattle.resource_lock.specs.GraphView.{GraphView, action_of, task_of}
-use Rattle.resource_lock.specs.Opening.{opening_of}
-use Rattle.resource_lock.specs.Ranges.{IsActionOf, IsIn, IsUnitOf, actions_of, earlier_actions, task_with, units_in, units_of}
-use Rattle.resource_lock.specs.Shape.{BelongsTo}
-use Rattle.resource_lock.specs.StateView.{StateView, is_parked, mark_of, runs_by}
-use Rattle.resource_lock.specs.declared.changes.Change.{Change}
-use Rattle.resource_lock.specs.declared.ids.WorkerId.{WorkerId}
-use Rattle.resource_lock.specs.declared.marks.Mark.{Mark}
-use Rattle.resource_lock.specs.declared.marks.Mark.TheVariants.{Waiting, Queued, Running, Passed, Failed, Skipped}
-use Rattle.resource_lock.specs.declared.marks.MarkId.{MarkId}
-use Rattle.resource_lock.specs.declared.marks.MarkId.TheVariants.{Task as TaskOf, Action as ActionOf, Unit as UnitOf}
+use Rattle.lock_journal.specs.Names.{can_all, make_all, same_mark, Fits, GraphView, action_of, task_of, opening_of, IsActionOf, IsIn, IsUnitOf}
+use Rattle.lock_journal.specs.Names.{actions_of, earlier_actions, task_with, units_in, units_of, BelongsTo, StateView, is_parked, mark_of, runs_by}
+use Rattle.lock_journal.specs.Names.{Change, WorkerId, Mark, Waiting, Queued, Running, Passed, Failed, Skipped, MarkId, TaskOf, ActionOf, UnitOf}
+use Rattle.lock_journal.specs.Names.{Finishes, IsKindOf, Lawful, lawful_from, Entry, changed, effect, replay, replay_from, condition, earlier_passed}
+use Rattle.lock_journal.specs.Names.{end_mark, has_passed, list_of, never_ran, skipped_waiting, units_passed, Kind, Start, Skip, Submit, Park, Resume}
+use Rattle.lock_journal.specs.Names.{Block, Unblock, End, IsEnded}
 use Rattle.resource_lock.proofs.lemmas.Undo.{same_mark_is}
-use Rattle.lock_transforms.specs.Allowed.{Finishes, IsKindOf, Lawful, lawful_from}
-use Rattle.lock_transforms.specs.Entry.{Entry, changed, effect, replay, replay_from}
-use Rattle.lock_transforms.specs.Table.{condition, earlier_passed, end_mark, has_passed, list_of, never_ran, skipped_waiting, units_passed}
-use Rattle.lock_transforms.specs.declared.entries.Kind.{Kind}
-use Rattle.lock_transforms.specs.declared.entries.Kind.TheVariants.{Start, Skip, Submit, Park, Resume, Block, Unblock, End}
-use Rattle.lock_journal.specs.Marks.{IsEnded}
 use Rattle.lock_journal.proofs.Conditions.{EarlierFailed, HasFallen}
 use Rattle.lock_journal.proofs.Finished.{HasMoved, IsFinal, final_by, has_moved}
 use Rattle.lock_journal.proofs.Kept.{ActionFact, IsKept, UnitFact, ended_not_passed, list_all-false}

@@ -1,9 +1,7 @@
 -- What a worker does next in its task, from what comes next of an action.
 use Rattle.std.proofs.Common.{◌≡◌, ℕ, Bool, true, false, Some}
 use Rattle.std.specs.Prelude.{if◌then◌else◌}
-use Rattle.resource_lock.specs.GraphView.{GraphView}
-use Rattle.resource_lock.specs.StateView.{StateView, holding_of}
-use Rattle.resource_lock.specs.declared.ids.WorkerId.{WorkerId}
+use Rattle.lock_journal.specs.Names.{GraphView, StateView, holding_of, WorkerId}
 use Rattle.async_tracker.specs.TaskMoves.{IsNextInTask, comes_with, fetch_waits, first_to_come, is_queued}
 use Rattle.async_tracker.specs.declared.task_moves.TaskMove.{TaskMove}
 use Rattle.async_tracker.specs.declared.task_moves.TaskMove.TheVariants as moves

@@ -5,29 +5,16 @@ use Rattle.std.specs.List.{list_all}
 use Rattle.std.proofs.lemmas.Bool.{and_from, eq-eqb, false≢true, not_from_false}
 use Rattle.std.proofs.lemmas.List.{append-nil, append_assoc}
 use Rattle.resource_lock.proofs.lemmas.Conflicts.{free_for_all, free_of_owner}
-use Rattle.resource_lock.specs.Change.{can, can_all, holding_after, make, make_all, same_mark}
-use Rattle.resource_lock.specs.GraphView.{GraphView, task_of}
-use Rattle.resource_lock.specs.Ranges.{actions_of, units_of}
-use Rattle.resource_lock.specs.StateView.{Holding, StateView, empty_holding, holding_of, is_idle, is_parked, kept_from, leases_out, mark_of, owner_of, runs_by, runs_unit, stands_in}
-use Rattle.resource_lock.specs.declared.changes.Change.{Change}
-use Rattle.resource_lock.specs.declared.changes.Change.TheVariants.{Lock, Unlock, Take, Give, Move}
-use Rattle.resource_lock.specs.declared.ids.LockId.{LockId}
-use Rattle.resource_lock.specs.declared.ids.WorkerId.{WorkerId}
-use Rattle.resource_lock.specs.declared.marks.Mark.{Mark}
-use Rattle.resource_lock.specs.declared.marks.Mark.TheVariants.{Waiting, Running, Passed, Failed, Skipped}
-use Rattle.resource_lock.specs.declared.marks.MarkId.{MarkId}
-use Rattle.resource_lock.specs.declared.marks.MarkId.TheVariants.{Task as TaskOf, Action as ActionOf, Unit as UnitOf}
-use Rattle.lock_transforms.specs.Allowed.{IsDisabled, IsFixedList}
-use Rattle.lock_transforms.specs.Table.{condition, end_mark, is_enabled, list_of, moved_units, skipped_action, skipped_actions, skipped_waiting, units_passed}
-use Rattle.lock_transforms.specs.declared.entries.Kind.TheVariants.{Start, Skip, End}
-use Rattle.lock_journal.specs.BookView.{BookView}
-use Rattle.lock_journal.specs.OwnChanges.{after_all, claimed_after, lock_before, locks_after, mark_before, with_if, with_member, without_if, without_member}
+use Rattle.lock_journal.specs.Names.{can, can_all, holding_after, make, make_all, same_mark, GraphView, task_of, actions_of, units_of, Holding}
+use Rattle.lock_journal.specs.Names.{StateView, empty_holding, holding_of, is_idle, is_parked, kept_from, leases_out, mark_of, owner_of, runs_by}
+use Rattle.lock_journal.specs.Names.{runs_unit, stands_in, Change, Lock, Unlock, Take, Give, Move, LockId, WorkerId, Mark, Waiting, Running, Passed}
+use Rattle.lock_journal.specs.Names.{Failed, Skipped, MarkId, TaskOf, ActionOf, UnitOf, IsDisabled, IsFixedList, condition, end_mark, is_enabled}
+use Rattle.lock_journal.specs.Names.{list_of, moved_units, skipped_action, skipped_actions, skipped_waiting, units_passed, Start, Skip, End, BookView}
+use Rattle.lock_journal.specs.Names.{after_all, claimed_after, lock_before, locks_after, mark_before, with_if, with_member, without_if}
+use Rattle.lock_journal.specs.Names.{without_member}
 use Rattle.worker_choices.specs.NextSteps.{CanBegin}
-use Rattle.coordination.specs.Agrees.{Finds}
-use Rattle.coordination.specs.Attempts.{Cause}
-use Rattle.coordination.specs.Calls.{HasFailed, HasFinished, HasLooked, WasStopped}
-use Rattle.coordination.specs.Holds.{HoldsNothing}
-use Rattle.coordination.specs.Shown.{ShowsTheSame, blocked_shown, claimed_shown, lease_shown, locks_shown}
+use Rattle.coordination.specs.Names.{Finds, Cause, HasFailed, HasFinished, HasLooked, WasStopped, HoldsNothing, ShowsTheSame, blocked_shown}
+use Rattle.coordination.specs.Names.{claimed_shown, lease_shown, locks_shown}
 use Rattle.coordination.specs.declared.halts.Halt.{Halt}
 use Rattle.coordination.specs.declared.rule.Sight.{Sight}
 use Rattle.coordination.proofs.lemmas.Shown.{failed_shows, looked_shows, shows_left, stopped_shows}

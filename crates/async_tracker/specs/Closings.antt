@@ -1,6 +1,5 @@
 -- What is left where an item is closed and more follows.
-use Rattle.lock_transforms.specs.Allowed.{IsFixedList}
-use Rattle.lock_transforms.specs.declared.entries.Closed.{Closed}
+use Rattle.lock_journal.specs.Names.{IsFixedList, Closed}
 use Rattle.lock_transforms.specs.declared.entries.Kind.TheVariants as kinds
 use Rattle.coordination.specs.Calls.{HasFinished}
 use Rattle.coordination.specs.declared.halts.Halt.{Halt}

@@ -1,14 +1,8 @@
 -- What a worker did first, and what came after it in the same hold of the state lock, or later where that had to be waited for.
 use Rattle.std.specs.Prelude.{◌≡◌, ◌⊎◌, ℕ, Option}
-use Rattle.resource_lock.specs.declared.ids.WorkerId.{WorkerId}
-use Rattle.lock_journal.specs.BookView.{BookView}
-use Rattle.lock_transforms.specs.Allowed.{IsFixedList}
-use Rattle.lock_transforms.specs.declared.entries.Kind.{Kind}
+use Rattle.lock_journal.specs.Names.{WorkerId, BookView, IsFixedList, Kind}
 use Rattle.lock_transforms.specs.declared.entries.Kind.TheVariants as kinds
-use Rattle.coordination.specs.Attempts.{Cause, Making}
-use Rattle.coordination.specs.Calls.{HasFinished}
-use Rattle.coordination.specs.Decisions.{HasDecided}
-use Rattle.coordination.specs.RunThenDecide.{decided_of}
+use Rattle.coordination.specs.Names.{Cause, Making, HasFinished, HasDecided, decided_of}
 use Rattle.coordination.specs.declared.decisions.Decided.{Decided}
 use Rattle.coordination.specs.declared.rule.Sight.{Sight}
 use Rattle.async_tracker.specs.Tasks.{ShowsEnded}

@@ -1,18 +1,11 @@
 -- What a worker does next whose items wait in the book.
 use Rattle.std.specs.Prelude.{ℕ, ◌≡◌, ◌<◌, Bool, true, Option, Some, None, length}
 use Rattle.std.specs.List.{list_any}
-use Rattle.resource_lock.specs.Change.{same_mark}
-use Rattle.resource_lock.specs.GraphView.{GraphView, action_of}
-use Rattle.resource_lock.specs.Ranges.{lock_with, units_of}
-use Rattle.resource_lock.specs.StateView.{StateView, mark_of}
-use Rattle.resource_lock.specs.declared.ids.WorkerId.{WorkerId}
-use Rattle.resource_lock.specs.declared.marks.Mark.TheVariants.{Failed}
-use Rattle.resource_lock.specs.declared.marks.MarkId.TheVariants.{Unit as UnitOf}
+use Rattle.lock_journal.specs.Names.{same_mark, GraphView, action_of, lock_with, units_of, StateView, mark_of, WorkerId, Failed, UnitOf, BookView}
 use Rattle.ready_work.specs.Choices.{IsQueued}
 use Rattle.ready_work.specs.Lowest.{IsLowest, IsNone}
-use Rattle.lock_journal.specs.BookView.{BookView}
 use Rattle.worker_choices.specs.Choices.{IsNext}
-use Rattle.worker_choices.specs.NextSteps.{CanGoOn, HasNothingToDo, can_pop}
+use Rattle.worker_choices.specs.NextSteps.{CanGoOn, HasNothingToDo, can_claim}
 use Rattle.worker_choices.specs.declared.choices.Choice.TheVariants as choices
 use Rattle.coordination.specs.Shown.{ShowsTheSame}
 use Rattle.coordination.specs.declared.decisions.Decided.{Decided}
@@ -29,8 +22,8 @@ use Rattle.async_tracker.specs.declared.work_steps.WorkStep.TheVariants as steps
 
 -- The choice of an idle worker, where items wait or don't. What it claims is the lowest queued unit.
 abbrev pub IsNextWork : GraphView → WorkerId → StateView → Bool → NextWork → Type 0
-IsNextWork g w s queued (next.Claim u) = IsNext g w s queued choices.Pop × IsLowest (IsQueued g s) u
-IsNextWork g w s queued next.Beside = IsNext g w s queued choices.Pop × IsNone (IsQueued g s)
+IsNextWork g w s queued (next.Claim u) = IsNext g w s queued choices.Claim × IsLowest (IsQueued g s) u
+IsNextWork g w s queued next.Beside = IsNext g w s queued choices.Claim × IsNone (IsQueued g s)
 IsNextWork g w s queued (next.Skip t) = IsNext g w s queued (choices.Skip t)
 IsNextWork g w s queued (next.Start t) = IsNext g w s queued (choices.Start t)
 IsNextWork g w s queued next.Finish = IsNext g w s queued choices.Finish
@@ -56,8 +49,8 @@ has_failed g s a = list_any (λ u. same_mark (mark_of s (UnitOf u)) Failed) (uni
 -- the choice of a worker that is parked in the action: the first of resuming and claiming the lowest queued unit
 abbrev pub IsNextParkedWork : GraphView → WorkerId → StateView → Bool → ℕ → ParkedWork → Type 0
 IsNextParkedWork g w s queued a (parked.Resume failed) = CanGoOn g w s a × (failed ≡ has_failed g s a)
-IsNextParkedWork g w s queued a (parked.Claim u) = (CanGoOn g w s a → ⊥) × (can_pop w s queued ≡ true) × IsLowest (IsQueued g s) u
-IsNextParkedWork g w s queued a parked.Beside = (CanGoOn g w s a → ⊥) × (can_pop w s queued ≡ true) × IsNone (IsQueued g s)
+IsNextParkedWork g w s queued a (parked.Claim u) = (CanGoOn g w s a → ⊥) × (can_claim w s queued ≡ true) × IsLowest (IsQueued g s) u
+IsNextParkedWork g w s queued a parked.Beside = (CanGoOn g w s a → ⊥) × (can_claim w s queued ≡ true) × IsNone (IsQueued g s)
 
 abbrev pub IsNextParkedWorkIf : ℕ → Bool → WorkerId → BookView → ParkedWork → Type 0
 IsNextParkedWorkIf a queued w book next = a < length book.graph.actions → IsNextParkedWork book.graph w book.state queued a next

@@ -1,7 +1,6 @@
 -- What is left where an action's items are queued and more follows.
 use Rattle.std.specs.Prelude.{ℕ}
-use Rattle.lock_transforms.specs.Allowed.{IsFixedList}
-use Rattle.lock_transforms.specs.declared.entries.Kind.TheVariants.{Submit}
+use Rattle.lock_journal.specs.Names.{IsFixedList, Submit}
 use Rattle.coordination.specs.Calls.{HasFinished}
 use Rattle.coordination.specs.declared.rule.Sight.{Sight}
 

@@ -1,19 +1,10 @@
 -- What a pass shows before and after the calls of the tracker.
 use Rattle.std.specs.Prelude.{ℕ, ◌≡◌, ◌<◌, ◌⊎◌, Bool, true, false, List, [], ◌∷◌, ◌++◌, Contains}
 use Rattle.std.specs.List.{list_any}
-use Rattle.resource_lock.specs.Change.{stands_last, without_last}
-use Rattle.resource_lock.specs.GraphView.{GraphView, action_of}
-use Rattle.resource_lock.specs.Ranges.{is_item, lock_with}
-use Rattle.resource_lock.specs.StateView.{owns, stands_in}
-use Rattle.resource_lock.specs.declared.graphs.Retention.{Retention}
-use Rattle.resource_lock.specs.declared.graphs.Retention.TheVariants.{Retain, Release, ReleaseAndReacquire}
-use Rattle.resource_lock.specs.declared.ids.LockId.{LockId}
-use Rattle.resource_lock.specs.declared.marks.MarkId.TheVariants.{Task as TaskOf, Action as ActionOf, Unit as UnitOf}
-use Rattle.lock_journal.specs.BookView.{BookView}
-use Rattle.lock_journal.specs.Own.{is_action, is_unit}
-use Rattle.lock_journal.specs.OwnChanges.{lock_before, mark_before, with_member, without_member}
-use Rattle.coordination.specs.Agrees.{Agrees}
-use Rattle.coordination.specs.Shown.{Shows, blocked_shown, claimed_shown, lease_shown, locks_shown, parked_shown}
+use Rattle.lock_journal.specs.Names.{stands_last, without_last, GraphView, action_of, is_item, lock_with, owns, stands_in, Retention, Retain, Release}
+use Rattle.lock_journal.specs.Names.{ReleaseAndReacquire, LockId, TaskOf, ActionOf, UnitOf, BookView, is_action, is_unit, lock_before, mark_before}
+use Rattle.lock_journal.specs.Names.{with_member, without_member}
+use Rattle.coordination.specs.Names.{Agrees, Shows, blocked_shown, claimed_shown, lease_shown, locks_shown, parked_shown}
 use Rattle.coordination.specs.declared.rule.Sight.{Sight}
 use Rattle.async_tracker.specs.ParkedView.{ParkedView}
 

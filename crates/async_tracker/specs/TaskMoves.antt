@@ -1,13 +1,7 @@
 -- What a worker does next that runs a task and isn't parked in it.
 use Rattle.std.specs.Prelude.{ℕ, ◌≡◌, ◌⊎◌, ◌&&◌, ◌||◌, Bool, true, false, Option, Some, None, find, if◌then◌else◌}
-use Rattle.resource_lock.specs.Change.{same_mark}
-use Rattle.resource_lock.specs.GraphView.{GraphView, action_of}
-use Rattle.resource_lock.specs.Ranges.{actions_of}
-use Rattle.resource_lock.specs.StateView.{StateView, holding_of, mark_of}
-use Rattle.resource_lock.specs.declared.ids.WorkerId.{WorkerId}
-use Rattle.resource_lock.specs.declared.marks.Mark.TheVariants.{Queued, Waiting}
-use Rattle.resource_lock.specs.declared.marks.MarkId.TheVariants.{Action as ActionOf, Unit as UnitOf}
-use Rattle.lock_transforms.specs.Table.{earlier_passed}
+use Rattle.lock_journal.specs.Names.{same_mark, GraphView, action_of, actions_of, StateView, holding_of, mark_of, WorkerId, Queued, Waiting, ActionOf}
+use Rattle.lock_journal.specs.Names.{UnitOf, earlier_passed}
 use Rattle.async_tracker.specs.declared.task_moves.TaskMove.{TaskMove}
 use Rattle.async_tracker.specs.declared.task_moves.TaskMove.TheVariants as moves
 use Rattle.async_tracker.specs.declared.work_steps.WorkStep.{WorkStep}

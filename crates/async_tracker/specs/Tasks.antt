@@ -1,21 +1,12 @@
 -- What a pass shows before and after a task starts and ends, and where it can't.
 use Rattle.std.specs.Prelude.{ℕ, ◌≡◌, Bool, true, false, ◌||◌, List, [], ◌∷◌, Contains, if◌then◌else◌}
 use Rattle.std.specs.List.{list_all, list_any}
-use Rattle.resource_lock.specs.Change.{can_all}
-use Rattle.resource_lock.specs.GraphView.{GraphView, task_of}
-use Rattle.resource_lock.specs.Ranges.{actions_of}
-use Rattle.resource_lock.specs.StateView.{StateView, mark_of}
-use Rattle.resource_lock.specs.declared.ids.LockId.{LockId}
-use Rattle.resource_lock.specs.declared.ids.WorkerId.{WorkerId}
-use Rattle.resource_lock.specs.declared.marks.MarkId.TheVariants.{Task as TaskOf, Action as ActionOf}
+use Rattle.lock_journal.specs.Names.{can_all, GraphView, task_of, actions_of, StateView, mark_of, LockId, WorkerId, TaskOf, ActionOf, has_passed}
+use Rattle.lock_journal.specs.Names.{list_of, never_ran, Skip, End, lock_before, mark_before, without_member, is_action, is_unit}
 use Rattle.ready_work.specs.Choices.{CanSkip}
-use Rattle.lock_transforms.specs.Table.{has_passed, list_of, never_ran}
-use Rattle.lock_transforms.specs.declared.entries.Kind.TheVariants.{Skip, End}
-use Rattle.lock_journal.specs.OwnChanges.{lock_before, mark_before, without_member}
 use Rattle.worker_choices.specs.NextSteps.{CanBegin}
 use Rattle.coordination.specs.Shown.{Shows, blocked_shown, claimed_shown, lease_shown, locks_shown, parked_shown}
 use Rattle.coordination.specs.declared.rule.Sight.{Sight}
-use Rattle.lock_journal.specs.Own.{is_action, is_unit}
 
 -- The worker runs the task, and neither waits for items nor runs a unit nor is blocked.
 pub record MayEnd (s : Sight) (t : ℕ) : Type 0 where

@@ -1,20 +1,9 @@
 -- What the calls of the tracker wait for.
 use Rattle.std.specs.Prelude.{ℕ, ◌≡◌, ◌≢◌, Bool, false, ◌&&◌, [], ◌∷◌, Option, None}
 use Rattle.std.specs.List.{list_all}
-use Rattle.resource_lock.specs.Change.{same_mark}
-use Rattle.resource_lock.specs.GraphView.{GraphView, action_of}
-use Rattle.resource_lock.specs.Ranges.{items_of, lock_with}
-use Rattle.resource_lock.specs.StateView.{StateView, mark_of}
-use Rattle.resource_lock.specs.Trying.{can_lease}
-use Rattle.resource_lock.specs.declared.graphs.Retention.{Retention}
-use Rattle.resource_lock.specs.declared.graphs.Retention.TheVariants.{Retain, Release, ReleaseAndReacquire}
-use Rattle.resource_lock.specs.declared.ids.LockId.{LockId}
-use Rattle.resource_lock.specs.declared.ids.WorkerId.{WorkerId}
-use Rattle.resource_lock.specs.declared.marks.Mark.TheVariants.{Waiting, Queued}
-use Rattle.resource_lock.specs.declared.marks.MarkId.TheVariants.{Action as ActionOf, Unit as UnitOf}
-use Rattle.lock_journal.specs.BookView.{BookView}
-use Rattle.lock_transforms.specs.Table.{earlier_passed, fetch_closed}
-use Rattle.lock_transforms.specs.Taking.{can_take_all}
+use Rattle.lock_journal.specs.Names.{same_mark, GraphView, action_of, items_of, lock_with, StateView, mark_of, can_lease, Retention, Retain, Release}
+use Rattle.lock_journal.specs.Names.{ReleaseAndReacquire, LockId, WorkerId, Waiting, Queued, ActionOf, UnitOf, BookView, earlier_passed, fetch_closed}
+use Rattle.lock_journal.specs.Names.{can_take_all}
 use Rattle.worker_choices.specs.NextSteps.{first_open}
 
 -- no lease is free for a unit that is Queued

@@ -1,15 +1,7 @@
 -- The steps of workers whose items wait in the book.
 use Rattle.std.specs.Prelude.{◌≡◌, ◌≢◌, ◌<◌, ◌≤◌, ◌⊎◌, ℕ, false, Option, Some, length}
-use Rattle.resource_lock.specs.GraphView.{GraphView}
-use Rattle.resource_lock.specs.StateView.{StateView, mark_of}
-use Rattle.resource_lock.specs.declared.ids.WorkerId.{WorkerId}
-use Rattle.resource_lock.specs.declared.marks.Mark.TheVariants.{Queued}
-use Rattle.resource_lock.specs.declared.marks.MarkId.TheVariants.{Unit as UnitOf}
-use Rattle.lock_transforms.specs.Allowed.{IsDisabled, IsUnmet}
-use Rattle.lock_transforms.specs.Table.{is_enabled}
-use Rattle.lock_transforms.specs.declared.entries.Kind.{Kind}
+use Rattle.lock_journal.specs.Names.{GraphView, StateView, mark_of, WorkerId, Queued, UnitOf, IsDisabled, IsUnmet, is_enabled, Kind, BookView}
 use Rattle.lock_transforms.specs.declared.entries.Kind.TheVariants as kinds
-use Rattle.lock_journal.specs.BookView.{BookView}
 use Rattle.coordination.specs.Decisions.{HasFailedIn, IsToWaitIn}
 use Rattle.coordination.specs.declared.rule.Sight.{Sight}
 use Rattle.async_tracker.specs.declared.work_steps.WorkStep.{WorkStep}

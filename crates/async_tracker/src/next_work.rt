@@ -59,7 +59,7 @@ impl Question for TakeNextWork {
 
     fn ask(&self, worker: WorkerId, book: &Book, queued: bool) -> Option<NextWork> {
         match next_of_idle(book, worker, queued)? {
-            Choice::Pop => match book.lowest_queued() {
+            Choice::Claim => match book.lowest_queued() {
                 Some(unit) => Some(NextWork::Claim(unit)),
                 None => Some(NextWork::Beside),
             },
@@ -107,13 +107,10 @@ impl Question for TakeParkedWork {
 
     ghost waits_on = { λ q queued w book. q.action < length book.graph.actions → HasToWait book.graph w book.state queued q.action };
 
-    ghost awaits = { λ q. Some (awaited.Items q.action false) };
+    ghost awaits = { λ q. Some (awaited.Items q.action) };
 
     fn awaited(&self) -> Option<Awaited> {
-        Some(Awaited::Items {
-            action: self.action,
-            own: false,
-        })
+        Some(Awaited::Items(self.action))
     }
 
     fn ask(&self, worker: WorkerId, book: &Book, queued: bool) -> Option<ParkedWork> {
@@ -122,7 +119,7 @@ impl Question for TakeParkedWork {
         }
         match next_of_parked(book, worker, queued, self.action)? {
             ParkedChoice::Resume => Some(ParkedWork::Resume(has_failed(book, self.action))),
-            ParkedChoice::Pop => match book.lowest_queued() {
+            ParkedChoice::Claim => match book.lowest_queued() {
                 Some(unit) => Some(ParkedWork::Claim(unit)),
                 None => Some(ParkedWork::Beside),
             },

@@ -5,24 +5,10 @@ use Rattle.std.specs.List.{AllByRecursion}
 use Rattle.std.proofs.lemmas.List.{get_or-set_same}
 use Rattle.item_actions.specs.declared.outcomes.Outcome.{Outcome}
 use Rattle.item_actions.specs.declared.outcomes.Outcome.TheVariants as outcomes
-use Rattle.resource_lock.specs.Change.{NamesOnly, make_all}
-use Rattle.resource_lock.specs.StateView.{StateView, mark_of}
-use Rattle.resource_lock.specs.declared.changes.Change.{Change}
-use Rattle.resource_lock.specs.declared.changes.Change.TheVariants.{Give, Move}
-use Rattle.resource_lock.specs.declared.ids.WorkerId.{WorkerId}
-use Rattle.resource_lock.specs.declared.marks.Mark.TheVariants.{Running, Waiting}
-use Rattle.resource_lock.specs.declared.marks.MarkId.{MarkId}
-use Rattle.resource_lock.specs.declared.marks.MarkId.TheVariants.{Unit as UnitOf}
-use Rattle.lock_transforms.specs.Allowed.{IsFixedList}
-use Rattle.lock_transforms.specs.Table.{mark_from}
-use Rattle.lock_transforms.specs.declared.entries.Closed.{Closed}
-use Rattle.lock_transforms.specs.declared.entries.Kind.TheVariants.{Close}
-use Rattle.lock_journal.specs.BookView.{BookView}
-use Rattle.lock_journal.specs.Own.{claimed}
+use Rattle.lock_journal.specs.Names.{NamesOnly, make_all, StateView, mark_of, Change, Give, Move, WorkerId, Running, Waiting, MarkId, UnitOf}
+use Rattle.lock_journal.specs.Names.{IsFixedList, mark_from, Closed, Close, BookView, claimed}
 use Rattle.lock_journal.proofs.lemmas.Claims.{unit_runs}
-use Rattle.coordination.specs.Calls.{AskedInVain, HasFinished, HasLooked}
-use Rattle.coordination.specs.Decisions.{CouldNotStep}
-use Rattle.coordination.specs.Shown.{claimed_shown}
+use Rattle.coordination.specs.Names.{AskedInVain, HasFinished, HasLooked, CouldNotStep, claimed_shown}
 use Rattle.coordination.specs.declared.halts.Halt.{Halt}
 use Rattle.coordination.specs.declared.halts.Halt.TheVariants.{NoMemory, Stopped}
 use Rattle.coordination.specs.declared.rule.Sight.{Sight}

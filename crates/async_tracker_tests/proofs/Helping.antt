@@ -2,15 +2,10 @@
 use Rattle.std.proofs.Common.{◌≡◌, List, [], ◌∷◌, arith, refl, sym, ap, ◌∙◌, subst}
 use Rattle.std.specs.Prelude.{Contains}
 use Rattle.std.specs.List.{list_any}
-use Rattle.resource_lock.specs.declared.graphs.Retention.{Retention}
-use Rattle.resource_lock.specs.declared.ids.LockId.{LockId}
-use Rattle.resource_lock.specs.declared.marks.MarkId.{MarkId}
-use Rattle.resource_lock.specs.declared.marks.MarkId.TheVariants.{Task as TaskOf, Action as ActionOf}
-use Rattle.lock_journal.specs.OwnChanges.{mark_before, without_member}
+use Rattle.lock_journal.specs.Names.{Retention, LockId, MarkId, TaskOf, ActionOf, mark_before, without_member, is_action, is_unit}
 use Rattle.coordination.specs.Shown.{ShowsTheSame, claimed_shown}
 use Rattle.coordination.specs.declared.rule.Sight.{Sight}
 use Rattle.async_tracker.specs.ParkedView.{ParkedView}
-use Rattle.lock_journal.specs.Own.{is_action, is_unit}
 use Rattle.async_tracker.specs.Shows.{ShowsResumed}
 use Rattle.async_tracker.proofs.lemmas.Turns.{free_still, parked_still, waits_still}
 use Rattle.async_tracker_tests.specs.TwoItems.{CanEnd, CanHelp, HasTwoItems}

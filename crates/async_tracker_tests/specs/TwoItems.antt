@@ -1,8 +1,6 @@
 -- A task with one action of two items, as the worked example runs it, and one that comes after it and has no actions.
 use Rattle.std.specs.Prelude.{◌≡◌, false, [], ◌∷◌, None}
-use Rattle.resource_lock.specs.GraphView.{GraphView}
-use Rattle.resource_lock.specs.declared.graphs.Retention.{Retention}
-use Rattle.resource_lock.specs.declared.marks.MarkId.TheVariants.{Task as TaskOf, Action as ActionOf}
+use Rattle.lock_journal.specs.Names.{GraphView, Retention, TaskOf, ActionOf}
 use Rattle.coordination.specs.Shown.{claimed_shown}
 use Rattle.coordination.specs.declared.rule.Sight.{Sight}
 use Rattle.async_tracker.specs.ParkedView.{ParkedView}

@@ -1,7 +1,6 @@
 -- What changes leave that follow one another.
 use Rattle.std.proofs.Common.{◌≡◌, List, [], ◌∷◌, ◌++◌, refl}
-use Rattle.resource_lock.specs.declared.changes.Change.{Change}
-use Rattle.lock_journal.specs.OwnChanges.{after_all}
+use Rattle.lock_journal.specs.Names.{Change, after_all}
 
 pub after_all-append : {X : Type 0} (after : X → Change → X) (x : X) (cs ds : List Change) → after_all after x (cs ++ ds) ≡ after_all after (after_all after x cs) ds
 after_all-append after x [] ds = refl

@@ -5,22 +5,11 @@ use Rattle.std.specs.List.{range_with_len}
 use Rattle.std.proofs.lemmas.Bool.{and_from, and_parts, cases_Bool, eq-eqb, le-leb, le-ltb, not_from_false}
 use Rattle.std.proofs.lemmas.List.Folds.{list_any_at}
 use Rattle.std.proofs.lemmas.List.FromFn.{get_or-range_with_len, length-range_with_len}
-use Rattle.resource_lock.specs.Change.{holding_after, same_mark}
-use Rattle.resource_lock.specs.GraphView.{GraphView, action_of}
-use Rattle.resource_lock.specs.Ranges.{IsFetchOf, task_with}
-use Rattle.resource_lock.specs.StateView.{Holding, StateView, holding_of, is_owner, is_parked, mark_of, runs_unit}
-use Rattle.resource_lock.specs.declared.changes.Change.{Change}
-use Rattle.resource_lock.specs.declared.changes.Change.TheVariants.{Unlock, Give, Enter}
-use Rattle.resource_lock.specs.declared.ids.LockId.{LockId}
-use Rattle.resource_lock.specs.declared.ids.WorkerId.{WorkerId}
-use Rattle.resource_lock.specs.declared.marks.Mark.TheVariants.{Waiting, Running}
-use Rattle.resource_lock.specs.declared.marks.MarkId.{MarkId}
-use Rattle.resource_lock.specs.declared.marks.MarkId.TheVariants.{Task as TaskOf, Action as ActionOf, Unit as UnitOf}
+use Rattle.lock_journal.specs.Names.{holding_after, same_mark, GraphView, action_of, IsFetchOf, task_with, Holding, StateView, holding_of, is_owner}
+use Rattle.lock_journal.specs.Names.{is_parked, mark_of, runs_unit, Change, Unlock, Give, Enter, LockId, WorkerId, Waiting, Running, MarkId, TaskOf}
+use Rattle.lock_journal.specs.Names.{ActionOf, UnitOf, condition, earlier_passed, owned_from, parked_locks, works_on, rises, Block, after_all}
+use Rattle.lock_journal.specs.Names.{claimed_after, locks_after}
 use Rattle.resource_lock.proofs.lemmas.Units.{action_there}
-use Rattle.lock_transforms.specs.Table.{condition, earlier_passed, owned_from, parked_locks, works_on}
-use Rattle.lock_transforms.specs.Taking.{rises}
-use Rattle.lock_transforms.specs.declared.entries.Kind.TheVariants.{Block}
-use Rattle.lock_journal.specs.OwnChanges.{after_all, claimed_after, locks_after}
 use Rattle.blocking_section.specs.Sections.{is_ready}
 use Rattle.blocking_section.proofs.After.{after_all-append}
 

@@ -2,24 +2,11 @@
 use Rattle.std.proofs.Common.{◌≡◌, ◌<◌, ℕ, true, false, List, [], ◌++◌, Option, None, Some, refl, sym, ap, ◌∙◌, subst}
 use Rattle.std.proofs.lemmas.Bool.{eq-eqb, false≢true, false_from_ne_true, or_right}
 use Rattle.std.proofs.lemmas.List.Folds.{list_any-append}
-use Rattle.resource_lock.specs.Change.{holding_after}
-use Rattle.resource_lock.specs.GraphView.{GraphView}
-use Rattle.resource_lock.specs.Ranges.{IsFetchOf, task_with}
-use Rattle.resource_lock.specs.StateView.{Holding, StateView, holding_of, mark_of, owner_of, owns, runs_by, stands_in}
-use Rattle.resource_lock.specs.declared.ids.LockId.{LockId}
-use Rattle.resource_lock.specs.declared.ids.WorkerId.{WorkerId}
-use Rattle.resource_lock.specs.declared.marks.Mark.TheVariants.{Running}
-use Rattle.resource_lock.specs.declared.marks.MarkId.{MarkId}
-use Rattle.resource_lock.specs.declared.marks.MarkId.TheVariants.{Task as TaskOf, Unit as UnitOf}
+use Rattle.lock_journal.specs.Names.{holding_after, GraphView, IsFetchOf, task_with, Holding, StateView, holding_of, mark_of, owner_of, owns, runs_by}
+use Rattle.lock_journal.specs.Names.{stands_in, LockId, WorkerId, Running, MarkId, TaskOf, UnitOf, IsFixedList, IsUnmet, BookView, list_of, owned}
+use Rattle.lock_journal.specs.Names.{Block, after_all, claimed_after, locks_after, mark_before, with_if}
 use Rattle.resource_lock.proofs.lemmas.Undo.{owner_from}
-use Rattle.lock_transforms.specs.Allowed.{IsFixedList, IsUnmet}
-use Rattle.lock_journal.specs.BookView.{BookView}
-use Rattle.lock_transforms.specs.Table.{list_of, owned}
-use Rattle.lock_transforms.specs.declared.entries.Kind.TheVariants.{Block}
-use Rattle.lock_journal.specs.OwnChanges.{after_all, claimed_after, locks_after, mark_before, with_if}
-use Rattle.coordination.specs.Agrees.{Finds}
-use Rattle.coordination.specs.Calls.{HasFinished}
-use Rattle.coordination.specs.Shown.{claimed_shown, lease_shown, locks_shown, parked_shown}
+use Rattle.coordination.specs.Names.{Finds, HasFinished, claimed_shown, lease_shown, locks_shown, parked_shown}
 use Rattle.coordination.specs.declared.rule.Sight.{Sight}
 use Rattle.coordination.proofs.lemmas.Nothing.{owns_none}
 use Rattle.coordination.proofs.lemmas.Shown.{ShowsAfter, shows_after}

@@ -1,29 +1,13 @@
 -- What a worker shows once it has left a blocking section, and what it may wait for before.
 use Rattle.std.proofs.Common.{◌≡◌, ◌<◌, ℕ, zero, suc, true, false, length, List, [], ◌∷◌, ◌++◌, get_or, Option, None, Some, refl, sym, ap, ◌∙◌, arith}
 use Rattle.std.proofs.lemmas.Bool.{eq-eqb, false≢true, false_from_ne_true, true_from_ne_false}
-use Rattle.resource_lock.specs.Change.{holding_after}
-use Rattle.resource_lock.specs.GraphView.{GraphView}
-use Rattle.resource_lock.specs.StateView.{Holding, StateView, holding_of, mark_of, stands_in, IsWorkerOf}
-use Rattle.resource_lock.specs.declared.changes.Change.{Change}
-use Rattle.resource_lock.specs.declared.changes.Change.TheVariants.{Move}
-use Rattle.resource_lock.specs.declared.ids.LockId.{LockId}
-use Rattle.resource_lock.specs.declared.ids.WorkerId.{WorkerId}
-use Rattle.resource_lock.specs.declared.marks.Mark.{Mark}
-use Rattle.resource_lock.specs.declared.marks.Mark.TheVariants.{Waiting, Running}
-use Rattle.resource_lock.specs.declared.marks.MarkId.{MarkId}
-use Rattle.resource_lock.specs.declared.marks.MarkId.TheVariants.{Unit as UnitOf}
+use Rattle.lock_journal.specs.Names.{holding_after, GraphView, Holding, StateView, holding_of, mark_of, stands_in, IsWorkerOf, Change, Move, LockId}
+use Rattle.lock_journal.specs.Names.{WorkerId, Mark, Waiting, Running, MarkId, UnitOf, IsDisabled, IsFixedList, BookView, is_enabled, list_of}
+use Rattle.lock_journal.specs.Names.{mark_from, can_take_all, rises, Unblock, after_all, claimed_after, locks_after, mark_before, with_if, without_if}
 use Rattle.resource_lock.proofs.lemmas.Runs.{worker_from}
 use Rattle.item_actions.specs.declared.outcomes.Outcome.{Outcome}
-use Rattle.lock_transforms.specs.Allowed.{IsDisabled, IsFixedList}
-use Rattle.lock_journal.specs.BookView.{BookView}
-use Rattle.lock_transforms.specs.Table.{is_enabled, list_of, mark_from}
-use Rattle.lock_transforms.specs.Taking.{can_take_all, rises}
-use Rattle.lock_transforms.specs.declared.entries.Kind.TheVariants.{Unblock}
-use Rattle.lock_journal.specs.OwnChanges.{after_all, claimed_after, locks_after, mark_before, with_if, without_if}
 use Rattle.worker_choices.specs.NextSteps.{can_take_up}
-use Rattle.coordination.specs.Agrees.{Finds}
-use Rattle.coordination.specs.Calls.{HasFinished}
-use Rattle.coordination.specs.Shown.{claimed_shown, locks_shown, parked_shown}
+use Rattle.coordination.specs.Names.{Finds, HasFinished, claimed_shown, locks_shown, parked_shown}
 use Rattle.coordination.specs.declared.rule.Sight.{Sight}
 use Rattle.coordination.proofs.lemmas.Entries.{belongs_sound, good_sound}
 use Rattle.coordination.proofs.lemmas.Shown.{ShowsAfter, shows_after}

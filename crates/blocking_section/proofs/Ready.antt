@@ -4,22 +4,12 @@ use Rattle.std.specs.Prelude.{◌&&◌, ◌==◌}
 use Rattle.std.specs.List.{range_with_len}
 use Rattle.std.proofs.lemmas.Bool.{and_from, and_parts, eqb-true, false≢true}
 use Rattle.std.proofs.lemmas.List.Folds.{Any-from_list_any}
-use Rattle.resource_lock.specs.Change.{same_mark}
-use Rattle.resource_lock.specs.GraphView.{GraphView, action_of}
-use Rattle.resource_lock.specs.Ranges.{IsActionOf, IsFetchOf, earlier_actions, task_with, units_of}
-use Rattle.resource_lock.specs.StateView.{StateView, mark_of}
-use Rattle.resource_lock.specs.declared.ids.WorkerId.{WorkerId}
-use Rattle.resource_lock.specs.declared.marks.Mark.TheVariants.{Waiting, Running, Passed}
-use Rattle.resource_lock.specs.declared.marks.MarkId.{MarkId}
-use Rattle.resource_lock.specs.declared.marks.MarkId.TheVariants.{Task as TaskOf, Action as ActionOf, Unit as UnitOf}
+use Rattle.lock_journal.specs.Names.{same_mark, GraphView, action_of, IsActionOf, IsFetchOf, earlier_actions, task_with, units_of, StateView, mark_of}
+use Rattle.lock_journal.specs.Names.{WorkerId, Waiting, Running, Passed, MarkId, TaskOf, ActionOf, UnitOf, Lawful, BookView, Entry, replay}
+use Rattle.lock_journal.specs.Names.{earlier_passed, has_passed, units_passed, works_on, IsEnded}
 use Rattle.resource_lock.proofs.lemmas.Undo.{same_mark_is}
 use Rattle.resource_lock.proofs.lemmas.Units.{action_there}
-use Rattle.lock_transforms.specs.Allowed.{Lawful}
-use Rattle.lock_journal.specs.BookView.{BookView}
-use Rattle.lock_transforms.specs.Entry.{Entry, replay}
-use Rattle.lock_transforms.specs.Table.{earlier_passed, has_passed, units_passed, works_on}
 use Rattle.lock_transforms.proofs.lemmas.Disabled.{all_of_still, and_still}
-use Rattle.lock_journal.specs.Marks.{IsEnded}
 use Rattle.lock_journal.proofs.lemmas.Fitting.{RangesApart, apart_of}
 use Rattle.lock_journal.proofs.lemmas.Growing.{marks_stay}
 use Rattle.lock_journal.proofs.lemmas.OwnTasks.{actions_stay, waiting_units_stay}

@@ -1,7 +1,6 @@
 -- What a worker gave back when it entered a blocking section.
 use Rattle.std.specs.Prelude.{ℕ, List, Option}
-use Rattle.resource_lock.specs.declared.ids.LockId.{LockId}
-use Rattle.resource_lock.specs.declared.ids.WorkerId.{WorkerId}
+use Rattle.lock_journal.specs.Names.{LockId, WorkerId}
 use Rattle.coordination.specs.Shown.{locks_shown}
 use Rattle.blocking_section.specs.declared.blocked.Blocked.TheInside.{Inside}
 

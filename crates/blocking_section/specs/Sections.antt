@@ -1,27 +1,12 @@
 -- What a pass shows round a blocking section.
 use Rattle.std.specs.Prelude.{◌≡◌, ◌≢◌, ◌<◌, ◌&&◌, ◌||◌, ℕ, Bool, true, false, List, [], ◌++◌, Option, None, Some, Contains}
 use Rattle.std.specs.List.{list_any}
-use Rattle.resource_lock.specs.Change.{same_mark}
-use Rattle.resource_lock.specs.Fits.{Fits}
-use Rattle.resource_lock.specs.GraphView.{GraphView}
-use Rattle.resource_lock.specs.Ranges.{IsFetchOf, task_with}
-use Rattle.resource_lock.specs.StateView.{StateView, holding_of, mark_of, owns, stands_in}
-use Rattle.resource_lock.specs.declared.ids.LockId.{LockId}
-use Rattle.resource_lock.specs.declared.ids.WorkerId.{WorkerId}
-use Rattle.resource_lock.specs.declared.marks.Mark.TheVariants.{Waiting}
-use Rattle.resource_lock.specs.declared.marks.MarkId.{MarkId}
-use Rattle.resource_lock.specs.declared.marks.MarkId.TheVariants.{Task as TaskOf, Action as ActionOf, Unit as UnitOf}
+use Rattle.lock_journal.specs.Names.{same_mark, Fits, GraphView, IsFetchOf, task_with, StateView, holding_of, mark_of, owns, stands_in, LockId}
+use Rattle.lock_journal.specs.Names.{WorkerId, Waiting, MarkId, TaskOf, ActionOf, UnitOf, BookView, condition, earlier_passed, can_take_all, Closed}
+use Rattle.lock_journal.specs.Names.{Block, is_action, is_unit, mark_before, with_member, without_member}
 use Rattle.item_actions.specs.declared.outcomes.Outcome.{Outcome}
 use Rattle.item_actions.specs.declared.outcomes.Outcome.TheVariants as outcomes
-use Rattle.lock_journal.specs.BookView.{BookView}
-use Rattle.lock_transforms.specs.Table.{condition, earlier_passed}
-use Rattle.lock_transforms.specs.Taking.{can_take_all}
-use Rattle.lock_transforms.specs.declared.entries.Closed.{Closed}
-use Rattle.lock_transforms.specs.declared.entries.Kind.TheVariants.{Block}
-use Rattle.lock_journal.specs.Own.{is_action, is_unit}
-use Rattle.lock_journal.specs.OwnChanges.{mark_before, with_member, without_member}
-use Rattle.coordination.specs.Agrees.{Agrees, IsSoundBook}
-use Rattle.coordination.specs.Shown.{blocked_shown, claimed_shown, lease_shown, locks_shown, parked_shown}
+use Rattle.coordination.specs.Names.{Agrees, IsSoundBook, blocked_shown, claimed_shown, lease_shown, locks_shown, parked_shown}
 use Rattle.coordination.specs.declared.rule.Sight.{Sight}
 use Rattle.blocking_section.specs.BlockedView.{BlockedView}
 

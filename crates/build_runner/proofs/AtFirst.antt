@@ -2,10 +2,8 @@
 use Rattle.std.proofs.Common.{◌≡◌, List, [], Result, Ok, Err, ap, ◌∙◌}
 use Rattle.std.specs.Prelude.{IfOk}
 use Rattle.std.specs.List.{All}
-use Rattle.resource_lock.specs.GraphView.{GraphView}
-use Rattle.lock_journal.specs.BookView.{BookView}
-use Rattle.coordination.specs.Holds.{HoldsNothing}
-use Rattle.coordination.specs.Passes.{CoordinationView, PassView}
+use Rattle.lock_journal.specs.Names.{GraphView, BookView}
+use Rattle.coordination.specs.Names.{HoldsNothing, CoordinationView, PassView}
 use Rattle.build_workers.specs.Worked.{CanWork}
 
 pub all_ready : (c : CoordinationView) (ps : List PassView) (g : GraphView) (book : BookView) → book.graph ≡ g → All (λ (p : PassView). p.service ≡ c.service) ps → All (λ (p : PassView). p.sight.seen ≡ book) ps → All (λ (p : PassView). HoldsNothing p.sight) ps → All (CanWork c g) ps

@@ -6,25 +6,13 @@ use Rattle.std.proofs.lemmas.Bool.{cases_lt, ne_eqb}
 use Rattle.item_actions.specs.Files.{Folder}
 use Rattle.item_actions.specs.Value.{IsHonest}
 use Rattle.item_actions.specs.declared.outcomes.Outcome.{Outcome}
-use Rattle.resource_lock.specs.GraphView.{GraphView}
-use Rattle.resource_lock.specs.StateView.{StateView}
-use Rattle.resource_lock.specs.declared.ids.WorkerId.{WorkerId}
-use Rattle.lock_transforms.specs.Allowed.{Lawful}
-use Rattle.lock_journal.specs.BookView.{BookView}
-use Rattle.lock_transforms.specs.Entry.{Entry, replay}
+use Rattle.lock_journal.specs.Names.{GraphView, StateView, WorkerId, Lawful, BookView, Entry, replay, IsHonestWorker, answers, closed_by, faults_by}
+use Rattle.lock_journal.specs.Names.{faults_in, IsEnded, ComesTo, GivesClosedOutcomes, Closed}
 use Rattle.plan_reader.specs.PlanView.{PlanView}
 use Rattle.plan_reader.specs.Units.{PlannedUnit, unit_value}
-use Rattle.lock_journal.specs.Answers.{IsHonestWorker, answers}
-use Rattle.lock_journal.specs.ClosedBy.{closed_by, faults_by, faults_in}
-use Rattle.lock_journal.specs.Marks.{IsEnded}
-use Rattle.lock_journal.specs.Runs.{ComesTo, GivesClosedOutcomes}
-use Rattle.coordination.specs.Agrees.{Agrees}
-use Rattle.coordination.specs.Holds.{HoldsNothing}
-use Rattle.coordination.specs.Passes.{PassView}
-use Rattle.coordination.specs.Sights.{workers_from}
+use Rattle.coordination.specs.Names.{Agrees, HoldsNothing, PassView, workers_from}
 use Rattle.coordination.specs.declared.rule.Sight.{Sight}
 use Rattle.item_work.specs.Requests.{SentView}
-use Rattle.lock_transforms.specs.declared.entries.Closed.{Closed}
 use Rattle.build_workers.specs.Desks.{DeskView}
 use Rattle.build_workers.specs.Points.{HasFinishedWork}
 use Rattle.build_workers.specs.Run.{HasResults, depth}

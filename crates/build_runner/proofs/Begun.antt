@@ -1,8 +1,7 @@
 -- What was opened, as a run begins.
 use Rattle.std.proofs.Common.{◌≡◌, ℕ, List, Option, length, map, ap, ◌∙◌}
 use Rattle.resource_lock.specs.GraphView.{GraphView}
-use Rattle.coordination.specs.Passes.{CoordinationView, PassView}
-use Rattle.coordination.specs.Sights.{workers_from}
+use Rattle.coordination.specs.Names.{CoordinationView, PassView, workers_from}
 use Rattle.plan_reader.specs.PlanView.{PlanView}
 use Rattle.plan_reader.specs.Units.{PlannedUnit}
 use Rattle.build_runner.specs.Prepared.{IsOpenedOn, IsPrepared}

@@ -3,9 +3,8 @@ use Rattle.std.proofs.Common.{◌≡◌, ℕ, suc, ◌+◌, ◌<◌, ◌≤◌, 
 use Rattle.std.specs.List.{range_with_len}
 use Rattle.std.specs.Prelude.{sum_by}
 use Rattle.std.proofs.lemmas.List.Sums.{sum_by-cons}
-use Rattle.lock_transforms.specs.Entry.{Entry}
+use Rattle.lock_journal.specs.Names.{Entry, closed_by}
 use Rattle.daemon_manager.specs.Counts.{TallyView}
-use Rattle.lock_journal.specs.ClosedBy.{closed_by}
 use Rattle.coordination.specs.Passes.{PassView}
 use Rattle.build_workers.specs.Failing.{unreal_by, unreal_in}
 use Rattle.build_workers.specs.RunFailing.{unreal_of}

@@ -4,8 +4,7 @@ use Rattle.std.specs.List.{All}
 use Rattle.std.specs.Prelude.{sum_by}
 use Rattle.std.proofs.lemmas.List.{drop_at, get_or-take, length-take-le}
 use Rattle.daemon_manager.specs.Counts.{TalliesView}
-use Rattle.coordination.specs.Passes.{PassView}
-use Rattle.coordination.specs.Sights.{workers_from}
+use Rattle.coordination.specs.Names.{PassView, workers_from}
 use Rattle.build_runner.specs.Books.{AreBack, Leaves}
 use Rattle.build_workers.specs.RunDesks.{AreAlike, desks_view, known_by}
 use Rattle.build_workers.specs.Desks.{DeskView}

@@ -3,10 +3,8 @@ use Rattle.std.proofs.Common.{◌≡◌, ℕ, zero, suc, ◌+◌, ◌<◌, ◌�
 use Rattle.std.specs.Prelude.{slice_get}
 use Rattle.std.specs.List.{AllByRecursion, flat_map, list_any}
 use Rattle.std.proofs.lemmas.Bool.{and_parts, cases_lt, false≢true, leb-true, ltb-true}
-use Rattle.resource_lock.specs.Fits.{Fits}
-use Rattle.resource_lock.specs.GraphView.{GraphView, no_action}
-use Rattle.resource_lock.specs.Ranges.{IsIn, fetches, first_item, has_item}
-use Rattle.resource_lock.specs.declared.graphs.GraphAction.{GraphAction}
+use Rattle.lock_journal.specs.Names.{Fits, GraphView, no_action, IsIn, fetches, first_item, GraphAction}
+use Rattle.resource_lock.specs.Ranges.{has_item}
 use Rattle.plan_reader.specs.Graph.{actions_from, all_actions_from, graph_of, units_in_all}
 use Rattle.plan_reader.specs.IsPlan.{IsPlan}
 use Rattle.plan_reader.specs.PlanView.{PlanActionView, PlanTaskView, PlanView, WorkView}

@@ -2,12 +2,10 @@
 use Rattle.std.proofs.Common.{◌≡◌, ℕ, zero, suc, ◌+◌, ◌<◌, Bool, false, List, [], ◌∷◌, length, get_or, map, None, refl, sym, ◌∙◌, ap, subst, arith}
 use Rattle.std.specs.List.{All}
 use Rattle.std.proofs.lemmas.List.{length-map}
-use Rattle.resource_lock.specs.GraphView.{GraphView, GraphTaskView, no_task}
-use Rattle.resource_lock.specs.declared.ids.LockId.{LockId}
+use Rattle.lock_journal.specs.Names.{GraphView, GraphTaskView, no_task, LockId, AreRanks}
 use Rattle.plan_reader.specs.PlanView.{PlanTaskView, PlanView}
 use Rattle.plan_reader.specs.Graph.{all_projects_lock, graph_of, task_lock, tasks_from}
 use Rattle.plan_reader.specs.IsPlan.{IsPlan, dependencies}
-use Rattle.lock_journal.specs.Outcomes.{AreRanks}
 use Rattle.ready_work.specs.Rank.{Dependencies, InRange, IsFirstCycle, after}
 use Rattle.ready_work.specs.Numbering.{IsNumbering}
 

@@ -3,8 +3,7 @@ use Rattle.std.specs.Prelude.{ℕ, ◌≡◌, ◌+◌, ◌<◌, ◌≤◌, Bool,
 use Rattle.daemon_manager.specs.Counts.{TalliesView, failures, reservations}
 use Rattle.daemon_manager.specs.Events.{IsLegal, NoneIdle}
 use Rattle.daemon_manager.specs.declared.events.Event.{Event}
-use Rattle.lock_journal.specs.BookView.{BookView}
-use Rattle.lock_journal.specs.ClosedBy.{closed_by}
+use Rattle.lock_journal.specs.Names.{BookView, closed_by}
 use Rattle.coordination.specs.Passes.{PassView}
 use Rattle.plan_reader.specs.PlanView.{PlanView}
 use Rattle.plan_reader.specs.Units.{plan_units}

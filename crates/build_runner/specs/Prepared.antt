@@ -1,8 +1,7 @@
 -- What a run has before it begins.
 use Rattle.std.specs.Prelude.{◌≡◌, [], All, List, Option, length, map, ℕ}
 use Rattle.resource_lock.specs.GraphView.{GraphView}
-use Rattle.coordination.specs.Passes.{CoordinationView, PassView}
-use Rattle.coordination.specs.Sights.{workers_from}
+use Rattle.coordination.specs.Names.{CoordinationView, PassView, workers_from}
 use Rattle.plan_reader.specs.Graph.{graph_of}
 use Rattle.plan_reader.specs.PlanView.{PlanView}
 use Rattle.plan_reader.specs.Units.{PlannedUnit, plan_units}

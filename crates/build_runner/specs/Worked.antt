@@ -3,8 +3,7 @@ use Rattle.std.specs.Prelude.{◌≡◌, ◌+◌, ◌-◌, ◌^◌, ◌<◌, ◌
 use Rattle.item_actions.specs.Files.{Folder}
 use Rattle.plan_reader.specs.Units.{PlannedUnit}
 use Rattle.coordination.specs.Passes.{PassView}
-use Rattle.lock_journal.specs.Answers.{IsHonestWorker}
-use Rattle.lock_journal.specs.ClosedBy.{closed_by, faults_by}
+use Rattle.lock_journal.specs.Names.{IsHonestWorker, closed_by, faults_by}
 use Rattle.build_workers.specs.Desks.{DeskView}
 use Rattle.build_workers.specs.Points.{HasFinishedWork}
 use Rattle.build_workers.specs.Sent.{AreSentAndOneMore, AreSentFor}

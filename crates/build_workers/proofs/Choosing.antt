@@ -1,20 +1,10 @@
 -- What an idle worker has after it decided what is next.
 use Rattle.std.proofs.Common.{◌≡◌, ◌⊎◌, ℕ, ◌<◌, inl, inr, Bool, true, false, Some, Result, Ok, Err, [], All, length, IfOk, refl, sym, ap, ◌∙◌, subst}
-use Rattle.resource_lock.specs.Fits.{Fits}
-use Rattle.resource_lock.specs.GraphView.{GraphView}
-use Rattle.resource_lock.specs.StateView.{StateView}
-use Rattle.resource_lock.specs.declared.ids.WorkerId.{WorkerId}
-use Rattle.lock_journal.specs.Marks.{IsEnded}
-use Rattle.lock_journal.specs.BookView.{BookView}
-use Rattle.lock_transforms.specs.Allowed.{IsFixedList}
+use Rattle.lock_journal.specs.Names.{Fits, GraphView, StateView, WorkerId, IsEnded, BookView, IsFixedList}
 use Rattle.worker_choices.specs.Choices.{IsNext}
 use Rattle.worker_choices.specs.declared.choices.Choice.TheVariants as choices
-use Rattle.coordination.specs.Agrees.{Finds, IsSoundBook}
-use Rattle.coordination.specs.Calls.{AskedInVain, HasLooked, WasStopped}
-use Rattle.coordination.specs.Decisions.{CouldNotStep}
-use Rattle.coordination.specs.Holds.{HoldsNothing}
-use Rattle.coordination.specs.Offered.{AsTold, WaitsAsTold}
-use Rattle.coordination.specs.Planned.{TellsOwn}
+use Rattle.coordination.specs.Names.{Finds, IsSoundBook, AskedInVain, HasLooked, WasStopped, CouldNotStep, HoldsNothing, AsTold, WaitsAsTold}
+use Rattle.coordination.specs.Names.{TellsOwn}
 use Rattle.coordination.specs.declared.decisions.Decided.{Decided}
 use Rattle.coordination.specs.declared.decisions.Decided.TheVariants as decided
 use Rattle.coordination.specs.declared.halts.Halt.{Halt}

@@ -1,12 +1,7 @@
 -- What a worker has decided behind an item.
 use Rattle.std.proofs.Common.{◌≡◌, ℕ, ◌<◌, Bool, true, Result, Ok, Err, IfOk, length, sym, ap, subst}
-use Rattle.resource_lock.specs.Fits.{Fits}
-use Rattle.resource_lock.specs.GraphView.{GraphView, action_of}
-use Rattle.resource_lock.specs.Ranges.{lock_with}
-use Rattle.resource_lock.specs.StateView.{Holding}
-use Rattle.coordination.specs.Offered.{AsTold}
-use Rattle.coordination.specs.Planned.{TellsOwn}
-use Rattle.coordination.specs.Shown.{ShowsTheSame}
+use Rattle.lock_journal.specs.Names.{Fits, GraphView, action_of, lock_with, Holding}
+use Rattle.coordination.specs.Names.{AsTold, TellsOwn, ShowsTheSame}
 use Rattle.coordination.specs.declared.decisions.Decided.{Decided}
 use Rattle.coordination.specs.declared.halts.Halt.{Halt}
 use Rattle.coordination.specs.declared.rule.Sight.{Sight}

@@ -2,11 +2,10 @@
 use Rattle.std.proofs.Common.{◌≡◌, ℕ, ◌+◌, ◌≤◌, List, [], ◌∷◌, ap, ◌∙◌, arith, subst}
 use Rattle.std.proofs.lemmas.List.Sums.{sum_by-append, sum_by-cons}
 use Rattle.item_actions.specs.declared.outcomes.Outcome.{Outcome}
-use Rattle.lock_transforms.specs.declared.entries.Closed.{Closed}
+use Rattle.lock_journal.specs.Names.{Closed, closed_by}
 use Rattle.daemon_manager.specs.Counts.{TallyView}
 use Rattle.daemon_requirements.specs.declared.work.Isolation.{Isolation}
 use Rattle.daemon_requirements.specs.declared.work.Isolation.TheVariants.{InThread, Process}
-use Rattle.lock_journal.specs.ClosedBy.{closed_by}
 use Rattle.coordination.specs.declared.rule.Sight.{Sight}
 use Rattle.item_work.specs.Tallying.{TalliesFor, one_if_unreal}
 use Rattle.build_workers.specs.Failing.{FailsForEach, unreal_by, unreal_in}

@@ -1,14 +1,8 @@
 -- An item that a worker ran, and what it decided behind it.
 use Rattle.std.proofs.Common.{◌≡◌, inl, inr, false, List, [], ◌∷◌, Option, Result, Ok, Err, refl, subst}
 use Rattle.std.specs.Prelude.{IfOk, OnErr}
-use Rattle.resource_lock.specs.declared.ids.WorkerId.{WorkerId}
-use Rattle.lock_transforms.specs.declared.entries.Closed.{Closed}
-use Rattle.lock_transforms.specs.declared.entries.Kind.{Kind}
-use Rattle.lock_journal.specs.BookView.{BookView}
-use Rattle.coordination.specs.Attempts.{Cause, Making}
-use Rattle.coordination.specs.Calls.{AskedInVain, HasLooked}
-use Rattle.coordination.specs.Decisions.{CouldNotStep, HasDecided}
-use Rattle.coordination.specs.Passes.{PassView}
+use Rattle.lock_journal.specs.Names.{WorkerId, Closed, Kind, BookView}
+use Rattle.coordination.specs.Names.{Cause, Making, AskedInVain, HasLooked, CouldNotStep, HasDecided, PassView}
 use Rattle.coordination.specs.declared.decisions.Decided.{Decided}
 use Rattle.coordination.specs.declared.halts.Halt.{Halt}
 use Rattle.coordination.specs.declared.halts.Halt.TheVariants.{NoMemory, Stopped}

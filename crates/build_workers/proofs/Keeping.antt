@@ -9,23 +9,15 @@ use Rattle.item_actions.specs.Files.{Folder}
 use Rattle.item_actions.specs.Value.{IsHonest, is_fault}
 use Rattle.item_actions.specs.declared.outcomes.Outcome.{Outcome}
 use Rattle.item_actions.specs.declared.outcomes.Outcome.TheVariants as outcomes
-use Rattle.resource_lock.specs.declared.ids.WorkerId.{WorkerId}
-use Rattle.lock_journal.specs.BookView.{BookView}
-use Rattle.lock_transforms.specs.Allowed.{IsFixedList}
-use Rattle.lock_transforms.specs.Entry.{Entry, entry}
-use Rattle.lock_transforms.specs.declared.entries.Closed.{Closed}
-use Rattle.lock_transforms.specs.declared.entries.Kind.{Kind}
+use Rattle.lock_journal.specs.Names.{WorkerId, BookView, IsFixedList, Entry, entry, Closed, Kind, IsHonestWorker, closed_of, closed_at, closed_by}
+use Rattle.lock_journal.specs.Names.{closed_in, faults_by, faults_in}
 use Rattle.file_access.specs.SinkView.{Rises}
 use Rattle.file_access.proofs.lemmas.Lists.{all_append}
 use Rattle.plan_reader.specs.Units.{PlannedUnit}
-use Rattle.lock_journal.specs.Answers.{IsHonestWorker}
-use Rattle.lock_journal.specs.Closings.{closed_of}
-use Rattle.lock_journal.specs.ClosedBy.{closed_at, closed_by, closed_in, faults_by, faults_in}
 use Rattle.lock_journal.proofs.lemmas.Growing.{closed_by-push}
-use Rattle.coordination.specs.Agrees.{Finds}
-use Rattle.coordination.specs.Attempts.{Cause, Making}
-use Rattle.coordination.specs.Calls.{AskedInVain, HasFailed, HasFinished, HasLooked, HasStopped, IsAnswered, WasStopped}
-use Rattle.coordination.specs.Decisions.{HasDecided, IsToWaitIn}
+use Rattle.coordination.specs.Names.{Finds, Cause, Making, AskedInVain, HasFailed, HasFinished, HasLooked, IsAnswered, WasStopped, HasDecided}
+use Rattle.coordination.specs.Names.{IsToWaitIn}
+use Rattle.coordination.specs.Calls.{HasStopped}
 use Rattle.coordination.specs.declared.decisions.Decided.{Decided}
 use Rattle.coordination.specs.declared.decisions.Decided.TheVariants as decided
 use Rattle.coordination.specs.declared.halts.Halt.{Halt}

@@ -3,22 +3,12 @@ use Rattle.std.proofs.Common.{arith, Some, Result, Ok, ◌≡◌, ℕ, ◌<◌, 
 use Rattle.std.specs.Prelude.{nat_lt}
 use Rattle.std.specs.List.{list_any}
 use Rattle.std.proofs.lemmas.Bool.{eq-eqb, false≢true, le-ltb}
-use Rattle.resource_lock.specs.Change.{without_last}
-use Rattle.resource_lock.specs.GraphView.{GraphView, action_of, task_of}
-use Rattle.resource_lock.specs.Fits.{Fits}
-use Rattle.resource_lock.specs.Ranges.{IsActionOf, IsFetchOf, lock_with, task_with}
-use Rattle.resource_lock.specs.StateView.{Holding, holding_of, stands_in}
-use Rattle.resource_lock.specs.declared.graphs.GraphAction.{GraphAction}
-use Rattle.resource_lock.specs.declared.graphs.Retention.{Retention}
-use Rattle.resource_lock.specs.declared.graphs.Retention.TheVariants.{Retain, Release, ReleaseAndReacquire}
-use Rattle.resource_lock.specs.declared.ids.LockId.{LockId}
-use Rattle.resource_lock.specs.declared.marks.MarkId.TheVariants.{Task as TaskOf, Action as ActionOf, Unit as UnitOf}
+use Rattle.lock_journal.specs.Names.{without_last, GraphView, action_of, task_of, Fits, IsActionOf, IsFetchOf, lock_with, task_with, Holding}
+use Rattle.lock_journal.specs.Names.{holding_of, stands_in, GraphAction, Retention, Retain, Release, ReleaseAndReacquire, LockId, TaskOf, ActionOf}
+use Rattle.lock_journal.specs.Names.{UnitOf, lock_before, mark_before, with_member, without_member, is_action, is_unit}
 use Rattle.lock_journal.proofs.lemmas.Fitting.{apart_of}
-use Rattle.lock_journal.specs.OwnChanges.{lock_before, mark_before, with_member, without_member}
-use Rattle.coordination.specs.Holds.{HoldsNothing}
-use Rattle.coordination.specs.Shown.{ShowsTheSame, blocked_shown, claimed_shown, lease_shown, locks_shown, parked_shown}
+use Rattle.coordination.specs.Names.{HoldsNothing, ShowsTheSame, blocked_shown, claimed_shown, lease_shown, locks_shown, parked_shown}
 use Rattle.coordination.specs.declared.rule.Sight.{Sight}
-use Rattle.lock_journal.specs.Own.{is_action, is_unit}
 use Rattle.async_tracker.specs.Shows.{IsIdleOrParked, OwnsToPark, ShowsParked, ShowsResumed, WorksOn}
 use Rattle.async_tracker.specs.Tasks.{MayEnd, ShowsEnded, ShowsStarted, locks_on_end}
 use Rattle.blocking_section.specs.Sections.{HasSetDown, HasTakenUp}

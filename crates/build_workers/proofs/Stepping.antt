@@ -8,8 +8,7 @@ use Rattle.item_actions.specs.Files.{Folder}
 use Rattle.item_actions.specs.Value.{IsHonest}
 use Rattle.item_actions.specs.declared.outcomes.Outcome.{Outcome}
 use Rattle.file_access.proofs.lemmas.Counting.{fault_rises, outcome_kept}
-use Rattle.lock_journal.specs.ClosedBy.{closed_by}
-use Rattle.lock_transforms.specs.declared.entries.Closed.{Closed}
+use Rattle.lock_journal.specs.Names.{closed_by, Closed}
 use Rattle.daemon_manager.specs.Counts.{TallyView}
 use Rattle.plan_reader.specs.Units.{PlannedUnit, value_in}
 use Rattle.coordination.specs.Passes.{PassView}

@@ -1,10 +1,7 @@
 -- How many daemons failed beside the units that weren't worked out.
 use Rattle.std.specs.Prelude.{ℕ, ◌+◌, ◌≤◌, List, sum_by}
-use Rattle.lock_transforms.specs.Entry.{Entry}
-use Rattle.lock_transforms.specs.declared.entries.Closed.{Closed}
-use Rattle.lock_journal.specs.ClosedBy.{closed_by}
+use Rattle.lock_journal.specs.Names.{Entry, Closed, closed_by, WorkerId}
 use Rattle.coordination.specs.declared.rule.Sight.{Sight}
-use Rattle.resource_lock.specs.declared.ids.WorkerId.{WorkerId}
 use Rattle.daemon_manager.specs.Counts.{TallyView}
 use Rattle.item_work.specs.Tallying.{one_if_unreal}
 

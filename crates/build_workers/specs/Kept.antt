@@ -1,10 +1,8 @@
 -- What each part of a worker's run keeps: its closings carry what the files give, and its faults are counted.
 use Rattle.std.specs.Prelude.{ℕ, ◌≡◌, ◌+◌, ◌-◌, ◌^◌, ◌<◌, ◌≤◌, ◌++◌, List, Option, IfSome}
 use Rattle.item_actions.specs.Files.{Folder}
-use Rattle.lock_transforms.specs.declared.entries.Closed.{Closed}
+use Rattle.lock_journal.specs.Names.{Closed, IsHonestWorker, closed_by, faults_by}
 use Rattle.plan_reader.specs.Units.{PlannedUnit}
-use Rattle.lock_journal.specs.Answers.{IsHonestWorker}
-use Rattle.lock_journal.specs.ClosedBy.{closed_by, faults_by}
 use Rattle.coordination.specs.declared.rule.Sight.{Sight}
 use Rattle.build_workers.specs.Units.{given}
 

@@ -1,12 +1,7 @@
 -- What a worker has at each point of a run.
 use Rattle.std.specs.Prelude.{ℕ, ◌≡◌, ◌⊎◌, true, false, [], ◌∷◌, All}
-use Rattle.resource_lock.specs.GraphView.{GraphView, task_of}
-use Rattle.resource_lock.specs.Ranges.{IsFetchOf, task_with}
-use Rattle.resource_lock.specs.declared.marks.MarkId.TheVariants.{Task as TaskOf}
-use Rattle.lock_journal.specs.Marks.{IsEnded}
-use Rattle.coordination.specs.Agrees.{IsSoundBook}
-use Rattle.coordination.specs.Holds.{HoldsNothing}
-use Rattle.coordination.specs.Shown.{blocked_shown, claimed_shown, lease_shown, locks_shown, parked_shown}
+use Rattle.lock_journal.specs.Names.{GraphView, task_of, IsFetchOf, task_with, TaskOf, IsEnded}
+use Rattle.coordination.specs.Names.{IsSoundBook, HoldsNothing, blocked_shown, claimed_shown, lease_shown, locks_shown, parked_shown}
 use Rattle.coordination.specs.declared.rule.Sight.{Sight}
 use Rattle.async_tracker.specs.Shows.{IsFree, IsIdleOrParked}
 

@@ -2,18 +2,11 @@
 use Rattle.std.specs.Prelude.{ℕ, ◌≡◌, ◌+◌, ◌++◌, ◌-◌, ◌^◌, ◌<◌, ◌≤◌, List, length, Option, None, Some, All}
 use Rattle.item_actions.specs.Files.{Folder}
 use Rattle.item_actions.specs.declared.outcomes.Outcome.{Outcome}
-use Rattle.resource_lock.specs.AtRest.{IsAtRest}
-use Rattle.resource_lock.specs.Good.{Good}
-use Rattle.lock_transforms.specs.Allowed.{Lawful}
-use Rattle.lock_transforms.specs.Entry.{Entry, replay}
-use Rattle.lock_journal.specs.BookView.{BookView}
+use Rattle.lock_journal.specs.Names.{IsAtRest, Good, Lawful, Entry, replay, BookView, answers, closed_by, faults_by, HasEnded, ComesTo}
+use Rattle.lock_journal.specs.Names.{GivesClosedOutcomes, IsOrderly}
 use Rattle.plan_reader.specs.PlanView.{PlanView}
 use Rattle.plan_reader.specs.Units.{plan_units, unit_value}
 use Rattle.plan_reader.specs.Graph.{graph_of}
-use Rattle.lock_journal.specs.Answers.{answers}
-use Rattle.lock_journal.specs.ClosedBy.{closed_by, faults_by}
-use Rattle.lock_journal.specs.Marks.{HasEnded}
-use Rattle.lock_journal.specs.Runs.{ComesTo, GivesClosedOutcomes, IsOrderly}
 use Rattle.build_workers.specs.RunDesks.{known_by}
 use Rattle.build_workers.specs.Desks.{DeskView}
 use Rattle.build_workers.specs.Sent.{AreSentAndOneMore, AreSentFor}

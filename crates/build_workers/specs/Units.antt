@@ -5,9 +5,7 @@ use Rattle.item_actions.specs.Files.{Folder}
 use Rattle.item_actions.specs.Forms.{is_file_name}
 use Rattle.item_actions.specs.declared.outcomes.Outcome.{Outcome}
 use Rattle.daemon_requirements.specs.RequirementsView.{RequirementsView}
-use Rattle.resource_lock.specs.Fits.{Fits}
-use Rattle.resource_lock.specs.GraphView.{GraphView}
-use Rattle.resource_lock.specs.Ranges.{IsFetchOf, is_item}
+use Rattle.lock_journal.specs.Names.{Fits, GraphView, IsFetchOf, is_item}
 use Rattle.plan_reader.specs.PlanView.{WorkView}
 use Rattle.plan_reader.specs.Units.{PlannedUnit, fetch_unit, item_unit, value_in}
 

@@ -1,8 +1,7 @@
 -- What a worker has as a run begins, and what it did in it.
 use Rattle.std.specs.Prelude.{◌≡◌, true}
 use Rattle.resource_lock.specs.GraphView.{GraphView}
-use Rattle.coordination.specs.Holds.{HoldsNothing}
-use Rattle.coordination.specs.Passes.{CoordinationView, PassView}
+use Rattle.coordination.specs.Names.{HoldsNothing, CoordinationView, PassView}
 use Rattle.build_workers.specs.Points.{HasFinishedWork}
 use Rattle.build_workers.specs.Site.{SiteView}
 use Rattle.build_workers.specs.Steps.{Steps}

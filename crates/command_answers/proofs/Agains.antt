@@ -1,9 +1,7 @@
 -- What is known of a run that was driven again.
 use Rattle.std.proofs.Common.{◌≡◌, ◌≤◌, ◌-◌, ◌^◌, Bool, true, false, nat_lt, ℕ, List, [], ◌∷◌, Option, Result, Ok, Err, refl, ◌∙◌, ap, inl, inr, arith}
 use Rattle.item_actions.specs.Files.{Folder}
-use Rattle.lock_transforms.specs.Entry.{Entry}
-use Rattle.lock_transforms.specs.declared.entries.Closed.{Closed}
-use Rattle.resource_lock.specs.GraphView.{GraphView}
+use Rattle.lock_journal.specs.Names.{Entry, Closed, GraphView}
 use Rattle.file_access.specs.Calls.{next}
 use Rattle.file_access.specs.SourceView.{SourceView}
 use Rattle.plan_reader.specs.PlanView.{PlanView}

@@ -6,20 +6,15 @@ use Rattle.item_actions.specs.Files.{Folder}
 use Rattle.item_actions.specs.Value.{passes}
 use Rattle.item_actions.specs.declared.outcomes.Outcome.{Outcome}
 use Rattle.item_actions.specs.declared.outcomes.Outcome.TheVariants as outcomes
-use Rattle.resource_lock.specs.Fits.{Fits}
-use Rattle.resource_lock.specs.GraphView.{GraphView, GraphTaskView, no_task, no_action, task_of}
-use Rattle.resource_lock.specs.Ranges.{actions_of, units_in, units_of}
-use Rattle.resource_lock.specs.declared.ids.LockId.{LockId}
-use Rattle.resource_lock.specs.declared.graphs.GraphAction.{GraphAction}
-use Rattle.lock_journal.specs.BookView.{BookView}
-use Rattle.lock_journal.specs.Closings.{closings, outcome_in}
-use Rattle.lock_transforms.specs.Table.{has_passed}
+use Rattle.lock_journal.specs.Names.{Fits, GraphView, GraphTaskView, no_task, no_action, task_of, actions_of, units_in, units_of, LockId, GraphAction}
+use Rattle.lock_journal.specs.Names.{BookView, closings, outcome_in, has_passed, answers, outcome_by, action_passes, earlier_pass, is_skipped}
+use Rattle.lock_journal.specs.Names.{task_outcome, task_passes, unit_outcome}
 use Rattle.plan_reader.specs.Graph.{all_projects_lock, graph_of, task_lock, tasks_from}
 use Rattle.plan_reader.specs.PlanView.{PlanTaskView, PlanView}
 use Rattle.plan_reader.specs.Units.{plan_units, unit_value}
-use Rattle.lock_journal.specs.Answers.{answer_by, answers}
-use Rattle.lock_journal.specs.ByNumber.{action_with, first_with, has_unit, outcome_by}
-use Rattle.lock_journal.specs.Outcomes.{action_passes, earlier_pass, is_skipped, mark_by, task_outcome, task_passes, unit_outcome}
+use Rattle.lock_journal.specs.Answers.{answer_by}
+use Rattle.lock_journal.specs.ByNumber.{action_with, first_with, has_unit}
+use Rattle.lock_journal.specs.Outcomes.{mark_by}
 use Rattle.build_workers.specs.RunDesks.{known_by}
 use Rattle.build_workers.specs.Desks.{DeskView}
 use Rattle.build_workers.specs.Run.{IsRunOf, depth}

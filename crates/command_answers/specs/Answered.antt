@@ -5,20 +5,10 @@ use Rattle.std.specs.List.{list_all, range_with_len}
 use Rattle.std.specs.declared.alloc.Global.{Global}
 use Rattle.item_actions.specs.Files.{Folder}
 use Rattle.item_actions.specs.declared.outcomes.Outcome.{Outcome}
-use Rattle.resource_lock.specs.GraphView.{GraphView}
-use Rattle.resource_lock.specs.StateView.{mark_of}
-use Rattle.resource_lock.specs.declared.marks.Mark.{Mark}
-use Rattle.resource_lock.specs.declared.marks.MarkId.TheVariants.{Task as TaskOf}
-use Rattle.lock_journal.specs.Closings.{outcome_in}
-use Rattle.lock_journal.specs.BookView.{BookView}
-use Rattle.lock_transforms.specs.Entry.{Entry}
-use Rattle.lock_transforms.specs.Table.{has_passed}
+use Rattle.lock_journal.specs.Names.{GraphView, mark_of, Mark, TaskOf, outcome_in, BookView, Entry, has_passed, answers, outcome_by, task_outcome}
 use Rattle.file_access.specs.SinkView.{Wrote, Broke}
 use Rattle.plan_reader.specs.PlanView.{PlanView}
 use Rattle.plan_reader.specs.Units.{plan_units, unit_value}
-use Rattle.lock_journal.specs.Answers.{answers}
-use Rattle.lock_journal.specs.ByNumber.{outcome_by}
-use Rattle.lock_journal.specs.Outcomes.{task_outcome}
 use Rattle.daemon_manager.specs.Asking.{AreAskedFor}
 use Rattle.daemon_manager.specs.Counts.{failures, reservations}
 use Rattle.daemon_manager.specs.Events.{IsLegal, NoneIdle}

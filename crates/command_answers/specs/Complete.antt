@@ -4,10 +4,8 @@ use Rattle.std.specs.List.{AllByRecursion}
 use Rattle.item_actions.specs.Files.{Folder, file_of}
 use Rattle.item_actions.specs.Value.{value_on}
 use Rattle.item_actions.specs.declared.outcomes.Outcome.TheVariants as outcome
-use Rattle.resource_lock.specs.declared.ids.WorkerId.{WorkerId}
-use Rattle.lock_journal.specs.BookView.{BookView}
+use Rattle.lock_journal.specs.Names.{WorkerId, BookView, faults_by}
 use Rattle.plan_reader.specs.PlanView.{PlanView}
-use Rattle.lock_journal.specs.ClosedBy.{faults_by}
 use Rattle.command_words.specs.declared.commands.Command.{Command}
 use Rattle.command_words.specs.declared.commands.Command.TheVariants.{Run, Worker, Check, Again, Make}
 use Rattle.file_access.specs.SourceView.{SourceView}

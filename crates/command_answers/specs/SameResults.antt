@@ -2,9 +2,7 @@
 use Rattle.std.specs.Prelude.{ℕ, ◌≡◌, ◌≢◌, List}
 use Rattle.std.specs.List.{AllByRecursion}
 use Rattle.item_actions.specs.declared.outcomes.Outcome.TheVariants.{Fault, NoMemory}
-use Rattle.lock_journal.specs.BookView.{BookView}
-use Rattle.lock_journal.specs.Closings.{closings, outcome_in}
-use Rattle.lock_transforms.specs.Entry.{Entry}
+use Rattle.lock_journal.specs.Names.{BookView, closings, outcome_in, Entry}
 use Rattle.plan_reader.specs.PlanView.{PlanView}
 use Rattle.history_text.specs.Results.{results_text, summary_text, task_marks}
 use Rattle.command_answers.specs.Answered.{have_all_passed}

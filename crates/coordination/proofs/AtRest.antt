@@ -4,23 +4,14 @@ use Rattle.std.proofs.lemmas.Bool.{cases_lt}
 use Rattle.std.specs.List.{All}
 use Rattle.std.proofs.lemmas.List.{get_or_past}
 use Rattle.std.proofs.lemmas.List.Elements.{All-cons, All-head, All-nil, All-tail}
-use Rattle.resource_lock.specs.GraphView.{GraphView}
-use Rattle.resource_lock.specs.StateView.{StateView, empty_holding, holding_of, owner_of}
-use Rattle.resource_lock.specs.declared.ids.LockId.{LockId}
-use Rattle.resource_lock.specs.declared.ids.WorkerId.{WorkerId}
+use Rattle.lock_journal.specs.Names.{GraphView, StateView, empty_holding, holding_of, owner_of, LockId, WorkerId, lawful_from, Entry, effect}
+use Rattle.lock_journal.specs.Names.{BookView, owned, claimed, IsAtRest}
 use Rattle.resource_lock.proofs.lemmas.Undo.{same_worker}
-use Rattle.lock_transforms.specs.Allowed.{lawful_from}
-use Rattle.lock_transforms.specs.Entry.{Entry, effect}
-use Rattle.lock_journal.specs.BookView.{BookView}
-use Rattle.lock_transforms.specs.Table.{owned}
-use Rattle.lock_journal.specs.Own.{NamesWorkers, claimed}
+use Rattle.lock_journal.specs.Own.{NamesWorkers}
 use Rattle.lock_journal.proofs.lemmas.Named.{named}
+use Rattle.coordination.specs.Names.{Agrees, IsSoundBook, HoldsNothing, PassView, sight, workers_from}
 use Rattle.coordination.specs.declared.rule.Sight.{Sight}
-use Rattle.coordination.specs.Agrees.{Agrees, IsSoundBook}
-use Rattle.resource_lock.specs.AtRest.{IsAtRest}
-use Rattle.coordination.specs.Holds.{HoldsNothing}
-use Rattle.coordination.specs.Passes.{PassView}
-use Rattle.coordination.specs.Sights.{no_book, sight, workers_from}
+use Rattle.coordination.specs.Sights.{no_book}
 use Rattle.coordination.proofs.Closing.{there_is}
 use Rattle.coordination.proofs.lemmas.Entries.{belongs_sound}
 use Rattle.coordination.proofs.lemmas.Nothing.{owns_none, runs_none}

@@ -4,11 +4,8 @@ use Rattle.std.specs.Prelude.{set, slice_get, length}
 use Rattle.std.proofs.lemmas.Bool.{cases_eq}
 use Rattle.std.proofs.lemmas.List.{get_or-set_other, get_or-set_same, length-set}
 use Rattle.std.proofs.lemmas.Option.{get_or_from_slice_get, slice_get_within}
-use Rattle.resource_lock.specs.declared.ids.WorkerId.{WorkerId}
-use Rattle.lock_journal.specs.BookView.{BookView}
-use Rattle.lock_transforms.specs.declared.entries.Kind.{Kind}
-use Rattle.lock_transforms.specs.declared.transforms.Disposition.{Disposition}
-use Rattle.lock_transforms.specs.declared.transforms.Disposition.TheVariants.{Finished, Failed, Retry}
+use Rattle.lock_journal.specs.Names.{WorkerId, BookView, Kind, Disposition, Finished, Retry}
+use Rattle.lock_transforms.specs.declared.transforms.Disposition.TheVariants.{Failed}
 use Rattle.worker_choices.specs.declared.awaited.Awaited.{Awaited}
 use Rattle.worker_choices.specs.declared.stances.Stance.{Stance}
 use Rattle.worker_choices.specs.declared.stances.Stance.TheVariants.{Away, Looks, Sleeps}

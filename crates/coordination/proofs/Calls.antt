@@ -1,22 +1,14 @@
 -- What the calls under the state lock come to, by what their turns do.
 use Rattle.std.proofs.Common.{◌≡◌, Bool, true, false, Result, Ok, Option, IfOk, ◌<◌, refl, sym, ap, ◌∙◌, subst}
-use Rattle.resource_lock.specs.GraphView.{GraphView}
-use Rattle.resource_lock.specs.declared.ids.WorkerId.{WorkerId}
-use Rattle.lock_journal.specs.BookView.{BookView}
-use Rattle.lock_transforms.specs.declared.entries.Kind.{Kind}
-use Rattle.lock_transforms.specs.declared.transforms.Disposition.TheVariants.{Finished}
+use Rattle.lock_journal.specs.Names.{GraphView, WorkerId, BookView, Kind, Finished}
+use Rattle.coordination.specs.Names.{IsSoundBook, Cause, Making, AskedInVain, HasFailed, HasFinished, IsAnswered, WasStopped, DecideGives, HadStep}
+use Rattle.coordination.specs.Names.{HasDecided, FollowGives, HasFollowed, decided_of, seeing, AskGives, RunGives, sight_at}
 use Rattle.coordination.specs.declared.decisions.Decided.{Decided}
 use Rattle.coordination.specs.declared.decisions.Decided.TheVariants as decided
 use Rattle.coordination.specs.declared.decisions.Followed.{Followed}
 use Rattle.coordination.specs.declared.decisions.Followed.TheVariants as followed
 use Rattle.coordination.specs.declared.rule.Sight.{Sight}
-use Rattle.coordination.specs.Agrees.{IsSoundBook}
-use Rattle.coordination.specs.Attempts.{Cause, Making}
-use Rattle.coordination.specs.Calls.{AskedInVain, HasFailed, HasFinished, IsAnswered, WasStopped}
-use Rattle.coordination.specs.Decisions.{DecideGives, HadStep, HasDecided}
-use Rattle.coordination.specs.RunThenDecide.{FollowGives, HasFollowed, decided_of}
-use Rattle.coordination.specs.Sights.{seeing}
-use Rattle.coordination.specs.Turns.{AskGives, Finishes, HasDone, RunGives, sight_at}
+use Rattle.coordination.specs.Turns.{Finishes, HasDone}
 use Rattle.coordination.proofs.TakenBooks.{adds_own}
 use Rattle.coordination.proofs.lemmas.Growing.{agrees_self}
 

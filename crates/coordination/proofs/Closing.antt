@@ -5,18 +5,14 @@ use Rattle.std.proofs.lemmas.List.{get_or-map, get_or_default}
 use mathlib.Core.Option.{some, some-injective}
 use lib.ListN.{get_elem?}
 use Rattle.atomic_table.specs.Table.{Final, Seen}
-use Rattle.resource_lock.specs.GraphView.{GraphView}
-use Rattle.resource_lock.specs.declared.ids.WorkerId.{WorkerId}
+use Rattle.lock_journal.specs.Names.{GraphView, WorkerId, BookView}
 use Rattle.resource_lock.proofs.lemmas.Undo.{same_worker}
-use Rattle.lock_journal.specs.BookView.{BookView}
+use Rattle.coordination.specs.Names.{Agrees, IsSoundBook, PassView, KeptView, kept, OutFits, home_of, Orderly, sight, all_of, sights_from}
+use Rattle.coordination.specs.Names.{workers_from}
 use Rattle.coordination.specs.declared.rule.Sight.{Sight}
 use Rattle.coordination.specs.declared.rule.SeatView.{SeatView}
-use Rattle.coordination.specs.Agrees.{Agrees, IsSoundBook}
-use Rattle.coordination.specs.Passes.{PassView}
 use Rattle.logbook.specs.Pages.{Book as Ledger}
-use Rattle.coordination.specs.Kept.{KeptView, kept}
-use Rattle.coordination.specs.Rule.{OutFits, home_of, Orderly}
-use Rattle.coordination.specs.Sights.{sight, all_of, no_book, sights_from, workers_from}
+use Rattle.coordination.specs.Sights.{no_book}
 use Rattle.coordination.proofs.Moves.{S}
 
 -- what the last state says of each worker, and of the slot

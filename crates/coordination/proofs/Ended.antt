@@ -2,14 +2,8 @@
 use Rattle.std.proofs.Common.{◌≡◌, List, map, sym, ap, ◌∙◌, subst}
 use mathlib.Core.Option.{some}
 use lib.ListN.{get_elem?}
-use Rattle.resource_lock.specs.GraphView.{GraphView}
-use Rattle.lock_journal.specs.BookView.{BookView}
-use Rattle.coordination.specs.Agrees.{Agrees}
-use Rattle.coordination.specs.Closings.{IsClosedBy}
-use Rattle.coordination.specs.Holds.{HoldsNothing}
-use Rattle.coordination.specs.Kept.{KeptView}
-use Rattle.coordination.specs.Passes.{PassView}
-use Rattle.coordination.specs.Sights.{workers_from}
+use Rattle.lock_journal.specs.Names.{GraphView, BookView}
+use Rattle.coordination.specs.Names.{Agrees, IsClosedBy, HoldsNothing, KeptView, PassView, workers_from}
 use Rattle.coordination.proofs.Closing.{Closes, graph_is, passes_agree, passes_stopped, sound_is, workers_all}
 use Rattle.coordination.proofs.AtRest.{known_entries, rests_with, to_sights}
 use Rattle.coordination.proofs.Together.{come_to}

@@ -3,11 +3,8 @@ use Rattle.std.proofs.Common.{◌≡◌, ℕ, zero, suc, ◌<◌, List, length, 
 use Rattle.std.specs.List.{All}
 use Rattle.std.proofs.lemmas.List.{get_or-map, length-map}
 use Rattle.std.proofs.lemmas.List.Elements.{All-weaker}
-use Rattle.resource_lock.specs.AtRest.{IsAtRest}
-use Rattle.lock_journal.specs.BookView.{BookView}
-use Rattle.coordination.specs.Holds.{HoldsNothing}
-use Rattle.coordination.specs.Passes.{PassView, ServiceId}
-use Rattle.coordination.specs.Sights.{sights_from}
+use Rattle.lock_journal.specs.Names.{IsAtRest, BookView}
+use Rattle.coordination.specs.Names.{HoldsNothing, PassView, ServiceId, sights_from}
 use Rattle.coordination.specs.declared.rule.Sight.{Sight}
 use Rattle.coordination.proofs.lemmas.Nothing.{owns_nothing, runs_nothing}
 

@@ -3,20 +3,12 @@ use Rattle.std.proofs.Common.{◌≡◌, ◌<◌, true, List, [], ◌∷◌, ◌
 use Rattle.std.specs.Prelude.{vec_capacity}
 use Rattle.std.proofs.lemmas.Bool.{and_parts}
 use Rattle.std.proofs.lemmas.List.{length_push}
-use Rattle.resource_lock.specs.Change.{can, can_all, holding_after, make, make_all}
-use Rattle.resource_lock.specs.Good.{Good}
-use Rattle.resource_lock.specs.StateView.{Holding, StateView, holding_of, runs_by}
-use Rattle.resource_lock.specs.declared.changes.Change.{Change}
-use Rattle.resource_lock.specs.declared.changes.Change.TheVariants.{Lock, Unlock, Take, Give, Move, Park, Unpark, Enter, Leave}
-use Rattle.resource_lock.specs.declared.ids.LockId.{LockId}
-use Rattle.resource_lock.specs.declared.ids.WorkerId.{WorkerId}
-use Rattle.resource_lock.specs.declared.marks.Mark.{Mark}
-use Rattle.resource_lock.specs.declared.marks.MarkId.{MarkId}
+use Rattle.lock_journal.specs.Names.{can, can_all, holding_after, make, make_all, Good, Holding, StateView, holding_of, runs_by, Change, Lock, Unlock}
+use Rattle.lock_journal.specs.Names.{Take, Give, Move, Unpark, Enter, Leave, LockId, WorkerId, Mark, MarkId, owned, claimed, claimed_after}
+use Rattle.lock_journal.specs.Names.{locks_after, lock_before, mark_before, with_if, with_member, without_if}
+use Rattle.resource_lock.specs.declared.changes.Change.TheVariants.{Park}
 use Rattle.resource_lock.proofs.lemmas.Kept.{kept}
 use Rattle.resource_lock.proofs.lemmas.Runs.{all_named_along, make_all-append, same_shape-make, worker_along}
-use Rattle.lock_transforms.specs.Table.{owned}
-use Rattle.lock_journal.specs.Own.{claimed}
-use Rattle.lock_journal.specs.OwnChanges.{claimed_after, locks_after, lock_before, mark_before, with_if, with_member, without_if}
 use Rattle.lock_journal.proofs.lemmas.OwnChanges.{own_claimed, own_holding, own_locks}
 use Rattle.coordination.specs.Parts.{HasRoom, HasRoomFor, IsAfter, LeadsOn}
 use Rattle.coordination.specs.declared.parts.WorkerPart.{WorkerPart}

@@ -1,16 +1,12 @@
 -- A book that gave its history away, as the worker sees it.
 use Rattle.std.proofs.Common.{◌≡◌, Bool, true, false, [], Option, refl, sym, ap, ◌∙◌, subst, append-nil}
-use Rattle.resource_lock.specs.declared.ids.WorkerId.{WorkerId}
-use Rattle.lock_journal.specs.BookView.{BookView}
-use Rattle.lock_journal.specs.Giving.{CanGive, GivesTo}
-use Rattle.lock_journal.specs.SegmentView.{SegmentView}
+use Rattle.lock_journal.specs.Names.{WorkerId, BookView, GivesTo, SegmentView}
+use Rattle.lock_journal.specs.Giving.{CanGive}
 use Rattle.history_views.specs.Growing.{ReachView}
 use Rattle.history_views.specs.ShownBooks.{IsTold, IsUnchanged}
-use Rattle.coordination.specs.Agrees.{Agrees}
+use Rattle.coordination.specs.Names.{Agrees, AddsOwn, M, Taken, carried_book, one, seeing, sight_of}
 use Rattle.coordination.specs.Giving.{HasTakenHistory, HasTakenNone}
 use Rattle.coordination.specs.Passes.{IsPass}
-use Rattle.coordination.specs.Rule.{AddsOwn, M, Taken, carried_book}
-use Rattle.coordination.specs.Sights.{one, seeing, sight_of}
 use Rattle.coordination.specs.declared.parts.Notes.{Notes}
 use Rattle.coordination.specs.declared.rule.Sight.{Sight}
 use Rattle.coordination.specs.declared.rule.SeatView.{SeatView}

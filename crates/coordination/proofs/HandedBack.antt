@@ -2,17 +2,8 @@
 use Rattle.std.proofs.Common.{◌≡◌, ◌≤◌, ℕ, Bool, true, false, cond, List, [], ◌∷◌, ◌++◌, length, map, Ok, refl, sym, ap, ◌∙◌, subst, arith}
 use Rattle.std.specs.Prelude.{vec_capacity}
 use Rattle.std.proofs.lemmas.Bool.{le-ltb}
-use Rattle.resource_lock.specs.Change.{holding_after}
-use Rattle.resource_lock.specs.StateView.{Holding, holding_of}
-use Rattle.resource_lock.specs.declared.changes.Change.{Change}
-use Rattle.resource_lock.specs.declared.changes.Change.TheVariants.{Unlock, Give}
-use Rattle.resource_lock.specs.declared.ids.LockId.{LockId}
-use Rattle.resource_lock.specs.declared.ids.WorkerId.{WorkerId}
-use Rattle.resource_lock.specs.declared.marks.MarkId.{MarkId}
-use Rattle.lock_transforms.specs.declared.entries.Kind.TheVariants.{HandBack}
-use Rattle.lock_transforms.specs.declared.transforms.Disposition.TheVariants.{Finished}
-use Rattle.lock_journal.specs.BookView.{BookView}
-use Rattle.lock_journal.specs.OwnChanges.{after_all, claimed_after, lock_before, locks_after, without_member}
+use Rattle.lock_journal.specs.Names.{holding_after, Holding, holding_of, Change, Unlock, Give, LockId, WorkerId, MarkId, HandBack, Finished, BookView}
+use Rattle.lock_journal.specs.Names.{after_all, claimed_after, lock_before, locks_after, without_member}
 use Rattle.coordination.specs.Parts.{Follows, HasHandedBack, HasRoom, IsPartOf, holding_in}
 use Rattle.coordination.specs.declared.parts.WorkerPart.{WorkerPart}
 use Rattle.coordination.proofs.lemmas.Entries.{part_by_changes}

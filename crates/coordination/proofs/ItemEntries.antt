@@ -2,20 +2,9 @@
 use Rattle.std.proofs.Common.{◌≡◌, ◌<◌, ◌==◌, ℕ, Bool, true, false, cond, List, [], ◌∷◌, length, Ok, refl, sym, ap, ◌∙◌, subst, arith}
 use Rattle.std.specs.Prelude.{vec_capacity, vec_len}
 use Rattle.std.proofs.lemmas.Bool.{eq-eqb}
-use Rattle.resource_lock.specs.Change.{holding_after, make}
-use Rattle.resource_lock.specs.Ranges.{items_of}
-use Rattle.resource_lock.specs.declared.changes.Change.{Change}
-use Rattle.resource_lock.specs.declared.changes.Change.TheVariants.{Give, Move, Take}
-use Rattle.resource_lock.specs.declared.ids.WorkerId.{WorkerId}
-use Rattle.resource_lock.specs.declared.marks.Mark.TheVariants.{Queued, Running, Waiting}
-use Rattle.resource_lock.specs.declared.marks.MarkId.{MarkId}
-use Rattle.resource_lock.specs.declared.marks.MarkId.TheVariants.{Action as ActionOf, Unit as UnitOf}
-use Rattle.lock_transforms.specs.Table.{mark_from, moved_units}
-use Rattle.lock_transforms.specs.declared.entries.Closed.{Closed}
-use Rattle.lock_transforms.specs.declared.entries.Kind.TheVariants.{Claim, Close, Submit}
-use Rattle.lock_transforms.specs.declared.transforms.Disposition.TheVariants.{Finished}
-use Rattle.lock_journal.specs.BookView.{BookView}
-use Rattle.lock_journal.specs.OwnChanges.{after_all, claimed_after, locks_after, mark_before, with_if, with_member, without_member}
+use Rattle.lock_journal.specs.Names.{holding_after, make, items_of, Change, Give, Move, Take, WorkerId, Queued, Running, Waiting, MarkId, ActionOf}
+use Rattle.lock_journal.specs.Names.{UnitOf, mark_from, moved_units, Closed, Claim, Close, Submit, Finished, BookView, after_all, claimed_after}
+use Rattle.lock_journal.specs.Names.{locks_after, mark_before, with_if, with_member, without_member}
 use Rattle.coordination.specs.Parts.{Follows, HasMarks, HasRoom, IsPartOf, LeadsOn, holding_in}
 use Rattle.coordination.specs.declared.parts.WorkerPart.{WorkerPart}
 use Rattle.coordination.proofs.Following.{leads_next, room_for}

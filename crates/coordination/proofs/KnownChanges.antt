@@ -1,24 +1,8 @@
 -- The part of a worker behind entries whose changes are known by their kind: a start, and the beginning and the end of a wait for items.
 use Rattle.std.proofs.Common.{◌≡◌, ℕ, ◌++◌, ◌∷◌, [], List, length, Ok, sym, ap, ◌∙◌, subst}
-use Rattle.resource_lock.specs.Change.{make, make_all}
-use Rattle.resource_lock.specs.GraphView.{GraphView, action_of, task_of}
-use Rattle.resource_lock.specs.Ranges.{lock_with}
-use Rattle.resource_lock.specs.StateView.{StateView}
-use Rattle.resource_lock.specs.declared.changes.Change.{Change}
-use Rattle.resource_lock.specs.declared.changes.Change.TheVariants.{Move}
-use Rattle.resource_lock.specs.declared.graphs.Retention.{Retention}
-use Rattle.resource_lock.specs.declared.graphs.Retention.TheVariants.{ReleaseAndReacquire}
-use Rattle.resource_lock.specs.declared.ids.LockId.{LockId}
-use Rattle.resource_lock.specs.declared.ids.WorkerId.{WorkerId}
-use Rattle.resource_lock.specs.declared.marks.Mark.TheVariants.{Passed, Queued, Running}
-use Rattle.resource_lock.specs.declared.marks.MarkId.TheVariants.{Action as ActionOf}
-use Rattle.lock_transforms.specs.Allowed.{IsKindOf}
-use Rattle.lock_transforms.specs.Table.{list_of, on_park, on_resume}
-use Rattle.lock_transforms.specs.declared.entries.Kind.{Kind}
-use Rattle.lock_transforms.specs.declared.entries.Kind.TheVariants.{Park, Resume, Start}
-use Rattle.lock_transforms.specs.declared.transforms.Disposition.TheVariants.{Finished}
-use Rattle.lock_journal.specs.BookView.{BookView}
-use Rattle.lock_journal.specs.LastChanges.{last_changes}
+use Rattle.lock_journal.specs.Names.{make, make_all, GraphView, action_of, task_of, lock_with, StateView, Change, Move, Retention}
+use Rattle.lock_journal.specs.Names.{ReleaseAndReacquire, LockId, WorkerId, Passed, Queued, Running, ActionOf, IsKindOf, list_of, on_park, on_resume}
+use Rattle.lock_journal.specs.Names.{Kind, Park, Resume, Start, Finished, BookView, last_changes}
 use Rattle.coordination.specs.Parts.{CanLead, CanNote, Follows, Has, HasRoom, HasRoomFor, IsAfter, IsPartOf, LeadsOn, LeadsPast, StandsInOrder, parked_with, resumed_with, started}
 use Rattle.coordination.specs.declared.parts.WorkerPart.{WorkerPart}
 use Rattle.coordination.proofs.Following.{leads_next, room_behind, room_for}

@@ -11,17 +11,14 @@ use prog.Atomic.{either}
 use lib.ListN.{get_elem?}
 use Rattle.atomic_table.specs.Table.{State, Step, Act, Valid, carried_after, step, keeps, takes, gives, stepped, Allows}
 use Rattle.atomic_table.proofs.Lists.{at_set, set_here, set_again}
-use Rattle.resource_lock.specs.GraphView.{GraphView}
-use Rattle.resource_lock.specs.declared.ids.WorkerId.{WorkerId}
-use Rattle.lock_journal.specs.BookView.{BookView}
+use Rattle.lock_journal.specs.Names.{GraphView, WorkerId, BookView}
+use Rattle.coordination.specs.Names.{seeing, hearing, one, KnowsNoStop, Agrees, IsSoundBook, KeptView, kept, AddsOwn, FitsSight, OutFits, home_of}
+use Rattle.coordination.specs.Names.{Orderly, taken, put_back}
 use Rattle.coordination.specs.declared.rule.Sight.{Sight}
 use Rattle.coordination.specs.declared.rule.SeatView.{SeatView}
-use Rattle.coordination.specs.Sights.{seeing, stopping, hearing, one, holding}
-use Rattle.coordination.specs.Stops.{KnowsNoStop}
-use Rattle.coordination.specs.Agrees.{Agrees, IsSoundBook}
+use Rattle.coordination.specs.Sights.{stopping, holding}
 use Rattle.logbook.specs.Pages.{Book as Ledger}
-use Rattle.coordination.specs.Kept.{KeptView, kept}
-use Rattle.coordination.specs.Rule.{AddsOwn, FitsSight, OutFits, TellsHolder, home_of, Orderly, taken, put_back, stopped_at, heard, marked}
+use Rattle.coordination.specs.Rule.{TellsHolder, stopped_at, heard, marked}
 use Rattle.coordination.proofs.lemmas.Growing.{goes_on, agrees_self, agrees_then}
 
 abbrev pub S : Type 0

@@ -1,14 +1,7 @@
 -- Nobody has anything where a run begins.
 use Rattle.std.proofs.Common.{◌≡◌, ◌≢◌, ℕ, zero, suc, get_or, length, None, replicate, refl}
-use Rattle.resource_lock.specs.Opening.{opening_of}
-use Rattle.resource_lock.specs.GraphView.{GraphView}
-use Rattle.resource_lock.specs.StateView.{empty_holding, mark_of}
-use Rattle.resource_lock.specs.declared.ids.WorkerId.{WorkerId}
-use Rattle.resource_lock.specs.declared.marks.Mark.{Mark}
-use Rattle.resource_lock.specs.declared.marks.Mark.TheVariants.{Running, Waiting}
-use Rattle.resource_lock.specs.declared.marks.MarkId.{MarkId}
-use Rattle.resource_lock.specs.declared.marks.MarkId.TheVariants.{Task as TaskOf, Action as ActionOf, Unit as UnitOf}
-use Rattle.resource_lock.specs.AtRest.{IsAtRest}
+use Rattle.lock_journal.specs.Names.{opening_of, GraphView, empty_holding, mark_of, WorkerId, Mark, Running, Waiting, MarkId, TaskOf, ActionOf}
+use Rattle.lock_journal.specs.Names.{UnitOf, IsAtRest}
 
 same_anywhere : {X : Type 0} (n k : ℕ) (x : X) → get_or (replicate n x) k x ≡ x
 same_anywhere zero k x = refl

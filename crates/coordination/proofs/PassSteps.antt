@@ -1,7 +1,6 @@
 -- A pass closes again after its steps.
 use Rattle.std.proofs.Common.{◌≡◌, ◌≤◌, ℕ, arith, Option, Some, None, List, refl, sym, ap, ◌∙◌, subst, [], ◌∷◌}
-use Rattle.resource_lock.specs.declared.ids.WorkerId.{WorkerId}
-use Rattle.lock_journal.specs.BookView.{BookView}
+use Rattle.lock_journal.specs.Names.{WorkerId, BookView}
 use Rattle.coordination.specs.declared.parts.Notes.{Notes}
 use Rattle.coordination.specs.declared.parts.WorkerPart.{WorkerPart}
 use Rattle.coordination.specs.declared.rule.Sight.{Sight}

@@ -4,18 +4,16 @@ use Rattle.std.specs.Prelude.{length, set, slice_get}
 use Rattle.std.proofs.lemmas.Bool.{cases_eq, true≢false}
 use Rattle.std.proofs.lemmas.List.{get_or-set_other, length-set}
 use Rattle.std.proofs.lemmas.Option.{get_or_from_slice_get, slice_get-get_or, slice_get_within}
-use Rattle.resource_lock.specs.declared.ids.WorkerId.{WorkerId}
+use Rattle.lock_journal.specs.Names.{WorkerId, BookView}
 use Rattle.ready_work.specs.Choices.{has_queued}
-use Rattle.lock_journal.specs.BookView.{BookView}
 use Rattle.worker_choices.specs.Stances.{sleeps}
 use Rattle.worker_choices.specs.declared.awaited.Awaited.{Awaited}
 use Rattle.worker_choices.specs.declared.stances.Stance.{Stance}
 use Rattle.worker_choices.specs.declared.stances.Stance.TheVariants.{Away, Sleeps}
 use Rattle.worker_choices.specs.declared.woken.Woken.{Woken}
 use Rattle.worker_choices.specs.declared.woken.Woken.TheVariants as woken
-use Rattle.coordination.specs.Offered.{is_queued_in}
-use Rattle.coordination.specs.Planned.{TellsOwn}
-use Rattle.coordination.specs.SleepAndWake.{AreQuiet, EndsTurn, HasWoken, IsWokenBy, stances_after, woken_if}
+use Rattle.coordination.specs.Names.{is_queued_in, TellsOwn, AreQuiet, HasWoken, woken_if}
+use Rattle.coordination.specs.SleepAndWake.{EndsTurn, IsWokenBy, stances_after}
 use Rattle.coordination.specs.declared.outside_work.Queued.{Queued}
 use Rattle.coordination.specs.declared.sleepers.Sleepers.{Sleepers}
 use Rattle.coordination.specs.declared.sleepers.Then.{Then}

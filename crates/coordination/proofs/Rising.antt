@@ -1,14 +1,8 @@
 -- The locks that a worker owns rise, and so do the marks that it runs.
 use Rattle.std.proofs.Common.{◌≡◌, ℕ, ◌+◌, ◌<◌, Bool, true, false, cond, ltb, lt-ltb, List, [], ◌∷◌, ◌++◌, map, Option, refl, sym, subst, arith, append-nil, ◌∙◌}
 use Rattle.std.specs.List.{AllByRecursion}
-use Rattle.resource_lock.specs.StateView.{StateView, is_owner, runs_by}
-use Rattle.resource_lock.specs.declared.ids.LockId.{LockId}
-use Rattle.resource_lock.specs.declared.ids.WorkerId.{WorkerId}
-use Rattle.resource_lock.specs.declared.marks.MarkId.{MarkId}
-use Rattle.resource_lock.specs.declared.marks.MarkId.TheVariants.{Task as TaskOf, Action as ActionOf}
-use Rattle.lock_transforms.specs.Table.{owned, owned_from}
-use Rattle.lock_journal.specs.Own.{action_at, claimed, places_from, task_at, unit_at}
-use Rattle.lock_journal.specs.OwnChanges.{lock_before, mark_before}
+use Rattle.lock_journal.specs.Names.{StateView, is_owner, runs_by, LockId, WorkerId, MarkId, TaskOf, ActionOf, owned, owned_from, action_at, claimed}
+use Rattle.lock_journal.specs.Names.{places_from, task_at, unit_at, lock_before, mark_before}
 use Rattle.coordination.specs.SortedLists.{IsRising}
 
 -- all stand from the number n on, so a lower number comes before them

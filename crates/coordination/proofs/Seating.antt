@@ -6,15 +6,13 @@ use mathlib.Core.Option.{some, some-ne-none}
 use lib.ListN.{get_elem?}
 use Rattle.atomic_table.specs.Table.{opening, Enters, Splits, Joins}
 use Rattle.atomic_table.proofs.Lists.{at_set}
-use Rattle.resource_lock.specs.GraphView.{GraphView}
-use Rattle.lock_journal.specs.BookView.{BookView}
+use Rattle.lock_journal.specs.Names.{GraphView, BookView}
+use Rattle.coordination.specs.Names.{sight, all_of, sights_from, IsSoundBook, KeptView, FitsSight, OutFits, Orderly, M}
 use Rattle.coordination.specs.declared.rule.Sight.{Sight}
 use Rattle.coordination.specs.declared.rule.SeatView.{SeatView}
-use Rattle.coordination.specs.Sights.{sight, all_of, nobody, sights_from, starting}
-use Rattle.coordination.specs.Agrees.{IsSoundBook}
+use Rattle.coordination.specs.Sights.{nobody, starting}
 use Rattle.logbook.specs.Pages.{Book as Ledger}
-use Rattle.coordination.specs.Kept.{KeptView}
-use Rattle.coordination.specs.Rule.{FitsSight, OutFits, Orderly, M, both_sights}
+use Rattle.coordination.specs.Rule.{both_sights}
 use Rattle.coordination.proofs.lemmas.Growing.{agrees_self}
 use Rattle.coordination.proofs.Moves.{set_views, more_views}
 

@@ -1,27 +1,16 @@
 -- One try under the lock, as the worker sees it.
 use Rattle.std.proofs.Common.{◌≡◌, ◌<◌, ◌≤◌, true, List, [], ◌∷◌, ◌++◌, length, length-append, Result, Ok, Err, Option, Some, None, refl, sym, ap, ◌∙◌, subst, append-nil, arith}
-use Rattle.resource_lock.specs.declared.ids.WorkerId.{WorkerId}
-use Rattle.resource_lock.specs.declared.changes.Change.{Change}
-use Rattle.resource_lock.specs.GraphView.{GraphView}
-use Rattle.resource_lock.specs.StateView.{StateView}
-use Rattle.lock_transforms.specs.Allowed.{Allowed, Lawful}
-use Rattle.lock_transforms.specs.Entry.{Entry, effect, entry, replay}
-use Rattle.lock_journal.specs.BookView.{BookView}
+use Rattle.lock_journal.specs.Names.{WorkerId, Change, GraphView, StateView, Allowed, Lawful, Entry, effect, entry, replay, BookView, FinishesIn}
+use Rattle.lock_journal.specs.Names.{FailsIn, IsToRetry, Kind, Disposition, Finished, Retry}
 use Rattle.history_views.specs.ShownBooks.{IsUnchanged}
-use Rattle.lock_journal.specs.Ran.{FinishesIn, FailsIn, IsToRetry}
-use Rattle.lock_transforms.specs.declared.entries.Kind.{Kind}
-use Rattle.lock_transforms.specs.declared.transforms.Disposition.{Disposition}
-use Rattle.lock_transforms.specs.declared.transforms.Disposition.TheVariants.{Finished, Failed, Retry}
+use Rattle.lock_transforms.specs.declared.transforms.Disposition.TheVariants.{Failed}
 use Rattle.lock_journal.proofs.lemmas.Growing.{lawful-push, replay-push}
+use Rattle.coordination.specs.Names.{IsSoundBook, Cause, Making, Ran, AddsOwn, M, Taken, carried_book, has_entered, one, seeing, sight_of, HasLeft}
+use Rattle.coordination.specs.Names.{HasTurned, Leaves, sight_at, Follows, HasRoom, IsPartOf}
 use Rattle.coordination.specs.declared.rule.Sight.{Sight}
-use Rattle.coordination.specs.Agrees.{IsSoundBook}
-use Rattle.coordination.specs.Attempts.{Answers, Asked, Attempted, Cause, Making, Ran}
-use Rattle.coordination.specs.Rule.{AddsOwn, M, Taken, carried_book}
-use Rattle.coordination.specs.SleepAndWake.{has_entered}
-use Rattle.coordination.specs.Sights.{one, seeing, sight_of}
-use Rattle.coordination.specs.Turns.{HasLeft, HasTurned, Leaves, sight_at}
+use Rattle.coordination.specs.Attempts.{Answers, Asked, Attempted}
 use Rattle.coordination.specs.declared.turns.Came.{Came}
-use Rattle.coordination.specs.Parts.{Follows, Grew, HasRoom, HasRoomIfFinished, IsPartOf}
+use Rattle.coordination.specs.Parts.{Grew, HasRoomIfFinished}
 use Rattle.coordination.specs.declared.parts.WorkerPart.{WorkerPart}
 use Rattle.coordination.proofs.PassSteps.{part_on}
 

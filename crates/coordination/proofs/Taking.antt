@@ -7,12 +7,10 @@ use lib.ListN.{get_elem?}
 use Rattle.atomic_table.specs.Table.{step, takes, Allows}
 use Rattle.atomic_table.proofs.Lists.{set_here}
 use Rattle.resource_lock.specs.GraphView.{GraphView}
+use Rattle.coordination.specs.Names.{kept, PassView, FitsSight, OutFits, Orderly, M, home_of, all_of, workers_from}
 use Rattle.coordination.specs.declared.rule.Sight.{Sight}
 use Rattle.coordination.specs.declared.rule.SeatView.{SeatView}
-use Rattle.coordination.specs.Kept.{kept}
-use Rattle.coordination.specs.Passes.{PassView}
-use Rattle.coordination.specs.Rule.{FitsSight, OutFits, Orderly, M, TellsHolder, home_of, TakenForGood, taken_for_good}
-use Rattle.coordination.specs.Sights.{all_of, workers_from}
+use Rattle.coordination.specs.Rule.{TellsHolder, TakenForGood, taken_for_good}
 use Rattle.coordination.proofs.Closing.{Closes, nobody_holds, workers_all}
 use Rattle.coordination.proofs.Moves.{inside_of, set_views, there}
 use Rattle.logbook.specs.Pages.{Book as Ledger}

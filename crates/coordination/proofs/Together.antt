@@ -2,16 +2,9 @@
 use Rattle.std.proofs.Common.{◌≡◌, ℕ, zero, suc, cond, ◌+◌, ◌-◌, ◌<◌, ◌≤◌, Bool, true, false, List, [], ◌∷◌, map, length, get_or, Contains, count_by, sum_by, Option, None, Some, refl, sym, ap, ◌∙◌, subst, arith, eqb-true}
 use Rattle.std.specs.List.{All, AllPairs}
 use Rattle.std.proofs.lemmas.List.{ext_get_or, get_or-map, length-map}
-use Rattle.resource_lock.specs.StateView.{Holding, empty_holding, holding_of, is_owner, leases_out, owner_of}
-use Rattle.resource_lock.specs.declared.ids.LockId.{LockId}
-use Rattle.resource_lock.specs.declared.ids.WorkerId.{WorkerId}
-use Rattle.lock_journal.specs.BookView.{BookView}
-use Rattle.lock_transforms.specs.Entry.{Entry}
-use Rattle.lock_transforms.specs.Table.{owned, owned_from}
-use Rattle.lock_transforms.specs.declared.entries.Closed.{Closed}
-use Rattle.coordination.specs.Agrees.{Agrees, IsSoundBook}
-use Rattle.coordination.specs.Passes.{PassView}
-use Rattle.coordination.specs.Sights.{workers_from}
+use Rattle.lock_journal.specs.Names.{Holding, empty_holding, holding_of, is_owner, leases_out, owner_of, LockId, WorkerId, BookView, Entry, owned}
+use Rattle.lock_journal.specs.Names.{owned_from, Closed}
+use Rattle.coordination.specs.Names.{Agrees, IsSoundBook, PassView, workers_from}
 use Rattle.coordination.specs.Together.{ComeTo, closed_of_pass, entries_of, has_lease, locks_of}
 use Rattle.coordination.proofs.Closing.{how_many, worker_at}
 use Rattle.coordination.proofs.lemmas.Entries.{belongs_sound, good_sound}

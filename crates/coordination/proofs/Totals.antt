@@ -4,12 +4,8 @@ use Rattle.std.proofs.lemmas.Bool.{cases_lt}
 use Rattle.std.specs.List.{All}
 use Rattle.std.proofs.lemmas.List.Elements.{All-head, All-tail}
 use Rattle.std.proofs.lemmas.List.Sums.{sum_by-append, sum_by-cons}
-use Rattle.resource_lock.specs.declared.ids.WorkerId.{WorkerId}
-use Rattle.lock_transforms.specs.Entry.{Entry}
-use Rattle.lock_transforms.specs.declared.entries.Closed.{Closed}
-use Rattle.lock_journal.specs.ClosedBy.{closed_at, closed_by, closed_in}
-use Rattle.coordination.specs.WorkerEntries.{entry_count_of}
-use Rattle.coordination.specs.Sights.{workers_from}
+use Rattle.lock_journal.specs.Names.{WorkerId, Entry, Closed, closed_at, closed_by, closed_in}
+use Rattle.coordination.specs.Names.{entry_count_of, workers_from}
 use Rattle.coordination.specs.Together.{closed_by_all}
 
 -- a sum by its recursion

@@ -1,18 +1,14 @@
 -- Turns, one after another.
 use Rattle.std.proofs.Common.{◌≡◌, ◌<◌, Result, Err, refl, sym, ap, ◌∙◌, subst}
-use Rattle.resource_lock.specs.GraphView.{GraphView}
-use Rattle.resource_lock.specs.declared.ids.WorkerId.{WorkerId}
-use Rattle.lock_journal.specs.BookView.{BookView}
+use Rattle.lock_journal.specs.Names.{GraphView, WorkerId, BookView}
 use Rattle.history_views.specs.ShownBooks.{IsUnchanged}
+use Rattle.coordination.specs.Names.{Finds, IsSoundBook, AskedInVain, HasLooked, hearing, seeing, HasTurned}
 use Rattle.coordination.specs.declared.halts.Halt.{Halt}
 use Rattle.coordination.specs.declared.halts.Halt.TheVariants.{Stopped}
 use Rattle.coordination.specs.declared.rule.Sight.{Sight}
 use Rattle.coordination.specs.declared.turns.Came.{Came}
 use Rattle.coordination.specs.declared.turns.Came.TheVariants as came
-use Rattle.coordination.specs.Agrees.{Finds, IsSoundBook}
-use Rattle.coordination.specs.Calls.{AskedInVain, HasLooked}
-use Rattle.coordination.specs.Sights.{hearing, seeing}
-use Rattle.coordination.specs.Turns.{HasDone, HasTurned, OnlyLooked}
+use Rattle.coordination.specs.Turns.{HasDone, OnlyLooked}
 use Rattle.coordination.proofs.lemmas.Growing.{agrees_same, agrees_self, agrees_then}
 
 pub same_halt : {A : Type 0} (v w : WorkerId) → ◌≡◌ {A = Result A Halt} (Err (Stopped v)) (Err (Stopped w)) → v ≡ w

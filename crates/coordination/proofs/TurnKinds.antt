@@ -1,13 +1,8 @@
 -- What each kind of turn leaves of a book.
 use Rattle.std.proofs.Common.{◌≡◌, ◌≢◌, Bool, true, false, ◌++◌, Result, Ok, Err, Option, Some, None, ◌<◌, refl, sym, ap, ◌∙◌, subst, append_assoc}
-use Rattle.resource_lock.specs.GraphView.{GraphView}
-use Rattle.resource_lock.specs.StateView.{StateView}
-use Rattle.resource_lock.specs.declared.ids.WorkerId.{WorkerId}
-use Rattle.lock_journal.specs.BookView.{BookView}
+use Rattle.lock_journal.specs.Names.{GraphView, StateView, WorkerId, BookView, Kind, Disposition, Finished, Retry}
 use Rattle.history_views.specs.ShownBooks.{IsUnchanged}
-use Rattle.lock_transforms.specs.declared.entries.Kind.{Kind}
-use Rattle.lock_transforms.specs.declared.transforms.Disposition.{Disposition}
-use Rattle.lock_transforms.specs.declared.transforms.Disposition.TheVariants.{Finished, Failed, Retry}
+use Rattle.lock_transforms.specs.declared.transforms.Disposition.TheVariants.{Failed}
 use Rattle.coordination.specs.declared.decisions.Decided.{Decided}
 use Rattle.coordination.specs.declared.decisions.Decided.TheVariants as decided
 use Rattle.coordination.specs.declared.decisions.Followed.{Followed}

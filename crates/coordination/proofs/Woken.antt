@@ -1,11 +1,7 @@
 -- Whom the ends of a turn's holds wake.
 use Rattle.std.proofs.Common.{◌≡◌, ◌≢◌, ◌<◌, ◌⊎◌, ◌++◌, ◌∷◌, ◌∙◌, [], Bool, ◌||◌, true, false, inl, inr, List, Result, Ok, Err, Option, Some, None, IfSome, refl, sym, ap, subst, arith, length, length-append}
-use Rattle.resource_lock.specs.declared.ids.WorkerId.{WorkerId}
-use Rattle.lock_journal.specs.BookView.{BookView}
-use Rattle.lock_transforms.specs.Entry.{Entry, entry}
-use Rattle.lock_transforms.specs.declared.entries.Kind.{Kind}
-use Rattle.lock_transforms.specs.declared.transforms.Disposition.{Disposition}
-use Rattle.lock_transforms.specs.declared.transforms.Disposition.TheVariants.{Finished, Failed, Retry}
+use Rattle.lock_journal.specs.Names.{WorkerId, BookView, Entry, entry, Kind, Disposition, Finished, Retry}
+use Rattle.lock_transforms.specs.declared.transforms.Disposition.TheVariants.{Failed}
 use Rattle.lock_journal.proofs.Adding.{last_at}
 use Rattle.worker_choices.specs.GoingOn.{any_lets_go_on, entry_lets_go_on, last_lets_go_on}
 use Rattle.worker_choices.specs.declared.awaited.Awaited.{Awaited}

@@ -1,11 +1,6 @@
 -- What a worker saw agrees with a book.
 use Rattle.std.specs.Prelude.{◌≡◌, ◌<◌, List, ◌++◌}
-use Rattle.resource_lock.specs.declared.ids.WorkerId.{WorkerId}
-use Rattle.lock_transforms.specs.Entry.{Entry, replay}
-use Rattle.lock_transforms.specs.Allowed.{Lawful}
-use Rattle.lock_journal.specs.BookView.{BookView}
-use Rattle.lock_journal.specs.ClosedBy.{closed_by}
-use Rattle.lock_journal.specs.Own.{NoneOf, SameFor}
+use Rattle.lock_journal.specs.Names.{WorkerId, Entry, replay, Lawful, BookView, closed_by, NoneOf, SameFor}
 use Rattle.coordination.specs.WorkerEntries.{last_of, entry_count_of}
 
 -- The history goes on from what the worker saw by entries of others alone, and what the worker has, owns, runs, closed and listed is the same in both.

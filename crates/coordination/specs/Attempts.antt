@@ -1,15 +1,9 @@
 -- One try under the lock, as the worker sees it.
 use Rattle.std.specs.Prelude.{◌≡◌, ◌≢◌, ◌⊎◌, Bool, false, List, Result, Ok, Err, Option, Some, None}
-use Rattle.resource_lock.specs.GraphView.{GraphView}
-use Rattle.resource_lock.specs.StateView.{StateView}
-use Rattle.resource_lock.specs.declared.ids.WorkerId.{WorkerId}
-use Rattle.resource_lock.specs.declared.changes.Change.{Change}
-use Rattle.lock_journal.specs.BookView.{BookView}
+use Rattle.lock_journal.specs.Names.{GraphView, StateView, WorkerId, Change, BookView, FinishesIn, FailsIn, IsToRetry, Kind, Disposition, Finished}
+use Rattle.lock_journal.specs.Names.{Retry}
 use Rattle.history_views.specs.ShownBooks.{IsUnchanged}
-use Rattle.lock_journal.specs.Ran.{FinishesIn, FailsIn, IsToRetry}
-use Rattle.lock_transforms.specs.declared.entries.Kind.{Kind}
-use Rattle.lock_transforms.specs.declared.transforms.Disposition.{Disposition}
-use Rattle.lock_transforms.specs.declared.transforms.Disposition.TheVariants.{Finished, Failed, Retry}
+use Rattle.lock_transforms.specs.declared.transforms.Disposition.TheVariants.{Failed}
 use Rattle.worker_choices.specs.GoingOn.{last_lets_go_on}
 use Rattle.worker_choices.specs.Stances.{asleep}
 use Rattle.worker_choices.specs.declared.awaited.Awaited.{Awaited}

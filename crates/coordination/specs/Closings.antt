@@ -1,10 +1,7 @@
 -- What a closed service leaves.
 use Rattle.std.specs.Prelude.{◌≡◌, ◌<◌, List, true, Some}
 use Rattle.std.specs.List.{All, Any}
-use Rattle.resource_lock.specs.AtRest.{IsAtRest}
-use Rattle.resource_lock.specs.GraphView.{GraphView}
-use Rattle.resource_lock.specs.declared.ids.WorkerId.{WorkerId}
-use Rattle.lock_journal.specs.BookView.{BookView}
+use Rattle.lock_journal.specs.Names.{IsAtRest, GraphView, WorkerId, BookView}
 use Rattle.coordination.specs.Agrees.{Agrees}
 use Rattle.coordination.specs.Holds.{HoldsNothing}
 use Rattle.coordination.specs.Passes.{PassView}

@@ -1,12 +1,8 @@
 -- What a decision leaves: a question, and where its answer has a step, the transform that carries it out on the same book.
 use Rattle.std.specs.Prelude.{◌≡◌, Bool, true, false, Result, Ok, Err, Option, Some, None, IfSome}
-use Rattle.resource_lock.specs.declared.ids.WorkerId.{WorkerId}
-use Rattle.lock_journal.specs.BookView.{BookView}
-use Rattle.lock_journal.specs.Ran.{FailsIn, IsToRetry}
+use Rattle.lock_journal.specs.Names.{WorkerId, BookView, FailsIn, IsToRetry, Kind, Disposition, Finished, Retry}
 use Rattle.history_views.specs.ShownBooks.{IsUnchanged}
-use Rattle.lock_transforms.specs.declared.entries.Kind.{Kind}
-use Rattle.lock_transforms.specs.declared.transforms.Disposition.{Disposition}
-use Rattle.lock_transforms.specs.declared.transforms.Disposition.TheVariants.{Finished, Failed, Retry}
+use Rattle.lock_transforms.specs.declared.transforms.Disposition.TheVariants.{Failed}
 use Rattle.worker_choices.specs.declared.awaited.Awaited.{Awaited}
 use Rattle.worker_choices.specs.declared.stances.Stance.{Stance}
 use Rattle.worker_choices.specs.declared.stances.Stance.TheVariants.{Away}

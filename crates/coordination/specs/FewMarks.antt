@@ -1,9 +1,6 @@
 -- How many marks a worker runs.
 use Rattle.std.specs.Prelude.{◌≡◌, ℕ}
-use Rattle.resource_lock.specs.StateView.{StateView, mark_of}
-use Rattle.resource_lock.specs.declared.ids.WorkerId.{WorkerId}
-use Rattle.resource_lock.specs.declared.marks.Mark.TheVariants.{Running}
-use Rattle.resource_lock.specs.declared.marks.MarkId.TheVariants.{Task as TaskOf, Action as ActionOf, Unit as UnitOf}
+use Rattle.lock_journal.specs.Names.{StateView, mark_of, WorkerId, Running, TaskOf, ActionOf, UnitOf}
 
 -- the worker runs at most a task, an action and a unit
 pub record RunsFew (s : StateView) (w : WorkerId) : Type 0 where

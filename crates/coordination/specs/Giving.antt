@@ -1,8 +1,7 @@
 -- What taking a service's history leaves.
 use Rattle.std.specs.Prelude.{◌≡◌}
-use Rattle.lock_journal.specs.BookView.{BookView}
-use Rattle.lock_journal.specs.Giving.{CanGive, GivesTo}
-use Rattle.lock_journal.specs.SegmentView.{SegmentView}
+use Rattle.lock_journal.specs.Names.{BookView, GivesTo, SegmentView}
+use Rattle.lock_journal.specs.Giving.{CanGive}
 use Rattle.coordination.specs.Agrees.{Finds, IsSoundBook}
 use Rattle.coordination.specs.Sights.{seeing}
 use Rattle.coordination.specs.declared.rule.Sight.{Sight}

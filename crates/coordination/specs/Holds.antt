@@ -1,8 +1,6 @@
 -- Workers that hold nothing.
 use Rattle.std.specs.Prelude.{◌≡◌, []}
-use Rattle.resource_lock.specs.StateView.{empty_holding, holding_of}
-use Rattle.lock_transforms.specs.Table.{owned}
-use Rattle.lock_journal.specs.Own.{claimed}
+use Rattle.lock_journal.specs.Names.{empty_holding, holding_of, owned, claimed}
 use Rattle.coordination.specs.declared.rule.Sight.{Sight}
 
 -- the worker owns no lock, runs nothing, and has no lease and no parked lock, nor is it blocked

@@ -22,3 +22,4 @@ pub mod Decisions
 pub mod RunThenDecide
 pub mod Planned
 pub mod Closings
+pub mod Names

@@ -1,8 +1,7 @@
 -- What questions say where items are offered to be claimed, beside the book or in it, or aren't.
 use Rattle.std.specs.Prelude.{Bool}
-use Rattle.resource_lock.specs.declared.ids.WorkerId.{WorkerId}
+use Rattle.lock_journal.specs.Names.{WorkerId, BookView}
 use Rattle.ready_work.specs.Choices.{has_queued}
-use Rattle.lock_journal.specs.BookView.{BookView}
 use Rattle.coordination.specs.declared.outside_work.Queued.{Queued}
 use Rattle.coordination.specs.declared.outside_work.Queued.TheVariants.{Beside, InBook}
 

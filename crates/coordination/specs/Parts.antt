@@ -2,28 +2,12 @@
 use Rattle.std.specs.Prelude.{◌≡◌, ◌+◌, ◌<◌, ◌≤◌, ℕ, suc, Bool, true, false, List, [], ◌∷◌, ◌++◌, length, vec_capacity}
 use Rattle.std.specs.Prelude.{vec_len, Result, Ok, Err, None}
 use Rattle.std.specs.List.{AllByRecursion}
-use Rattle.resource_lock.specs.Change.{can_all, holding_after, make_all, NamesOnly}
-use Rattle.resource_lock.specs.Good.{Good}
-use Rattle.resource_lock.specs.StateView.{Holding, IsWorkerOf, StateView, holding_of, runs_by}
-use Rattle.resource_lock.specs.declared.changes.Change.{Change}
-use Rattle.resource_lock.specs.declared.changes.Change.TheVariants.{Give, Lock, Move, Park, Take, Unlock, Unpark}
-use Rattle.resource_lock.specs.declared.ids.LockId.{LockId}
-use Rattle.resource_lock.specs.declared.ids.WorkerId.{WorkerId}
-use Rattle.resource_lock.specs.declared.marks.Mark.TheVariants.{Passed, Queued, Running, Waiting}
-use Rattle.resource_lock.specs.declared.marks.MarkId.{MarkId}
-use Rattle.resource_lock.specs.declared.marks.MarkId.TheVariants.{Action as ActionOf, Task as TaskOf}
-use Rattle.lock_transforms.specs.Allowed.{IsKindOf}
-use Rattle.lock_transforms.specs.Entry.{entry}
-use Rattle.lock_journal.specs.BookView.{BookView}
-use Rattle.lock_journal.specs.LastChanges.{last_changes}
-use Rattle.lock_journal.specs.Ran.{FinishesIn}
-use Rattle.lock_transforms.specs.MostChanges.{locks_gained}
-use Rattle.lock_transforms.specs.Table.{list_of, owned}
-use Rattle.lock_transforms.specs.declared.entries.Kind.{Kind}
-use Rattle.lock_transforms.specs.declared.transforms.Disposition.{Disposition}
-use Rattle.lock_transforms.specs.declared.transforms.Disposition.TheVariants.{Finished, Failed, Retry}
-use Rattle.lock_journal.specs.Own.{claimed}
-use Rattle.lock_journal.specs.OwnChanges.{claimed_after, lock_before, locks_after, mark_before, without_if}
+use Rattle.lock_journal.specs.Names.{can_all, holding_after, make_all, NamesOnly, Good, Holding, IsWorkerOf, StateView, holding_of, runs_by, Change}
+use Rattle.lock_journal.specs.Names.{Give, Lock, Move, Take, Unlock, Unpark, LockId, WorkerId, Passed, Queued, Running, Waiting, MarkId, ActionOf}
+use Rattle.lock_journal.specs.Names.{TaskOf, IsKindOf, entry, BookView, last_changes, FinishesIn, locks_gained, list_of, owned, Kind, Disposition}
+use Rattle.lock_journal.specs.Names.{Finished, Retry, claimed, claimed_after, lock_before, locks_after, mark_before, without_if}
+use Rattle.resource_lock.specs.declared.changes.Change.TheVariants.{Park}
+use Rattle.lock_transforms.specs.declared.transforms.Disposition.TheVariants.{Failed}
 use Rattle.coordination.specs.Agrees.{IsSoundBook}
 use Rattle.coordination.specs.SortedLists.{IsRising}
 use Rattle.coordination.specs.WorkerEntries.{last_of}

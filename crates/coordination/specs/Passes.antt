@@ -2,8 +2,7 @@
 use Rattle.std.specs.Prelude.{◌≡◌, List, [], ◌∷◌, Option}
 use Rattle.logbook.specs.Pages.{Book as Ledger}
 use Rattle.atomic_table.specs.Seated.{TableId}
-use Rattle.resource_lock.specs.declared.ids.WorkerId.{WorkerId}
-use Rattle.lock_journal.specs.BookView.{BookView}
+use Rattle.lock_journal.specs.Names.{WorkerId, BookView}
 use Rattle.coordination.specs.declared.rule.Sight.{Sight}
 use Rattle.coordination.specs.Parts.{HasRoom, IsPartOf}
 use Rattle.coordination.specs.declared.parts.Notes.{Notes}

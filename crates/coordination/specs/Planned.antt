@@ -1,8 +1,7 @@
 -- What a turn leaves of a book that offers its own queued units.
 use Rattle.std.specs.Prelude.{◌≡◌}
-use Rattle.resource_lock.specs.declared.ids.WorkerId.{WorkerId}
+use Rattle.lock_journal.specs.Names.{WorkerId, BookView}
 use Rattle.ready_work.specs.Choices.{has_queued}
-use Rattle.lock_journal.specs.BookView.{BookView}
 use Rattle.coordination.specs.Offered.{AreTold, Telling}
 use Rattle.coordination.specs.SleepAndWake.{AreQuiet, EndsTurn}
 use Rattle.coordination.specs.declared.outside_work.QueuedUnits.{QueuedUnits}

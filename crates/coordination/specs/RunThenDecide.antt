@@ -1,9 +1,6 @@
 -- What a transform leaves with a decision behind it, in one hold of the state lock.
 use Rattle.std.specs.Prelude.{◌≡◌, true, false, Option}
-use Rattle.resource_lock.specs.declared.ids.WorkerId.{WorkerId}
-use Rattle.lock_journal.specs.BookView.{BookView}
-use Rattle.lock_journal.specs.Ran.{FailsIn}
-use Rattle.lock_transforms.specs.declared.entries.Kind.{Kind}
+use Rattle.lock_journal.specs.Names.{WorkerId, BookView, FailsIn, Kind}
 use Rattle.coordination.specs.Attempts.{Cause, Making}
 use Rattle.coordination.specs.Calls.{HasFailed, HasFinished}
 use Rattle.coordination.specs.Decisions.{DecideGives, HadStep, HasDecided}

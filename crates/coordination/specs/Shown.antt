@@ -1,10 +1,6 @@
 -- What a pass shows of its worker: what is the worker's own in the book that it last saw.
 use Rattle.std.specs.Prelude.{◌≡◌, Bool, List}
-use Rattle.resource_lock.specs.StateView.{holding_of}
-use Rattle.resource_lock.specs.declared.ids.LockId.{LockId}
-use Rattle.resource_lock.specs.declared.marks.MarkId.{MarkId}
-use Rattle.lock_transforms.specs.Table.{owned}
-use Rattle.lock_journal.specs.Own.{claimed}
+use Rattle.lock_journal.specs.Names.{holding_of, LockId, MarkId, owned, claimed}
 use Rattle.coordination.specs.declared.rule.Sight.{Sight}
 
 abbrev pub locks_shown : Sight → List LockId

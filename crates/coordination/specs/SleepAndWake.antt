@@ -2,14 +2,8 @@
 use Rattle.std.specs.Prelude.{◌≡◌, ◌≢◌, ◌<◌, ◌⊎◌, ◌&&◌, ◌++◌, not, Bool, true, false, List, Option, None, Some, Result, Ok, Err}
 use Rattle.std.specs.Prelude.{All, length, replicate, set, slice_get}
 use Rattle.std.specs.List.{list_any}
-use Rattle.resource_lock.specs.declared.ids.WorkerId.{WorkerId}
-use Rattle.lock_journal.specs.BookView.{BookView}
-use Rattle.lock_transforms.specs.Entry.{Entry}
-use Rattle.lock_transforms.specs.declared.entries.Kind.{Kind}
-use Rattle.lock_transforms.specs.declared.entries.Kind.TheVariants.{Block, Claim, End, Park, Skip, Submit}
-use Rattle.lock_transforms.specs.declared.transforms.Disposition.{Disposition}
-use Rattle.lock_transforms.specs.declared.transforms.Disposition.TheVariants.{Finished, Failed, Retry}
-use Rattle.lock_journal.specs.Marks.{IsEnded}
+use Rattle.lock_journal.specs.Names.{WorkerId, BookView, Entry, Kind, Block, Claim, End, Park, Skip, Submit, Disposition, Finished, Retry, IsEnded}
+use Rattle.lock_transforms.specs.declared.transforms.Disposition.TheVariants.{Failed}
 use Rattle.worker_choices.specs.NextSteps.{StillWait, Waits}
 use Rattle.worker_choices.specs.GoingOn.{any_lets_go_on, last_lets_go_on}
 use Rattle.worker_choices.specs.Stances.{asleep, looking, sleeps}

@@ -1,13 +1,7 @@
 -- What the passes of all workers come to together.
 use Rattle.std.specs.Prelude.{◌≡◌, ◌≤◌, ℕ, Bool, List, [], ◌∷◌, ◌++◌, length, Contains, count_by, sum_by}
 use Rattle.std.specs.List.{AllPairs}
-use Rattle.resource_lock.specs.StateView.{holding_of}
-use Rattle.resource_lock.specs.declared.ids.LockId.{LockId}
-use Rattle.lock_transforms.specs.Entry.{Entry}
-use Rattle.lock_journal.specs.BookView.{BookView}
-use Rattle.lock_transforms.specs.Table.{owned}
-use Rattle.lock_transforms.specs.declared.entries.Closed.{Closed}
-use Rattle.lock_journal.specs.ClosedBy.{closed_by, closed_in}
+use Rattle.lock_journal.specs.Names.{holding_of, LockId, Entry, BookView, owned, Closed, closed_by, closed_in}
 use Rattle.coordination.specs.WorkerEntries.{entry_count_of}
 use Rattle.coordination.specs.Passes.{PassView}
 

@@ -1,13 +1,8 @@
 -- Turns: what a worker does with the book in one hold of the state lock.
 use Rattle.std.specs.Prelude.{◌≡◌, Bool, true, false, List, Result, Ok, Err, None}
-use Rattle.resource_lock.specs.declared.ids.WorkerId.{WorkerId}
-use Rattle.resource_lock.specs.declared.changes.Change.{Change}
-use Rattle.lock_journal.specs.BookView.{BookView}
-use Rattle.lock_journal.specs.Ran.{FinishesIn, FailsIn}
+use Rattle.lock_journal.specs.Names.{WorkerId, Change, BookView, FinishesIn, FailsIn, Kind, Disposition, Finished, Retry}
 use Rattle.history_views.specs.ShownBooks.{IsUnchanged}
-use Rattle.lock_transforms.specs.declared.entries.Kind.{Kind}
-use Rattle.lock_transforms.specs.declared.transforms.Disposition.{Disposition}
-use Rattle.lock_transforms.specs.declared.transforms.Disposition.TheVariants.{Finished, Failed, Retry}
+use Rattle.lock_transforms.specs.declared.transforms.Disposition.TheVariants.{Failed}
 use Rattle.coordination.specs.declared.parts.WorkerPart.{WorkerPart}
 use Rattle.coordination.specs.declared.rule.Sight.{Sight}
 use Rattle.coordination.specs.declared.turns.Came.{Came}

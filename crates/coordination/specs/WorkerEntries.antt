@@ -1,7 +1,6 @@
 -- How many entries of a history are a worker's, and which of them is the last.
 use Rattle.std.specs.Prelude.{ℕ, suc, ◌==◌, if◌then◌else◌, List, [], ◌∷◌, count_by}
-use Rattle.resource_lock.specs.declared.ids.WorkerId.{WorkerId}
-use Rattle.lock_transforms.specs.Entry.{Entry}
+use Rattle.lock_journal.specs.Names.{WorkerId, Entry}
 
 -- the number of the worker's last entry, where entries are counted from n + 1 on, or `found`
 abbrev pub last_in : ℕ → ℕ → WorkerId → List Entry → ℕ

@@ -1,11 +1,8 @@
 -- A pass that asked agrees with what it saw before.
 use Rattle.std.proofs.Common.{◌≡◌, ◌≢◌, false, Result, Ok, Err, refl, sym, subst}
 use Rattle.std.specs.Prelude.{IfOk}
-use Rattle.resource_lock.specs.declared.ids.WorkerId.{WorkerId}
-use Rattle.lock_journal.specs.BookView.{BookView}
-use Rattle.coordination.specs.Agrees.{Agrees}
-use Rattle.coordination.specs.Calls.{AskedInVain, IsAnswered}
-use Rattle.coordination.specs.Offered.{AreTold, Telling}
+use Rattle.lock_journal.specs.Names.{WorkerId, BookView}
+use Rattle.coordination.specs.Names.{Agrees, AskedInVain, IsAnswered, AreTold, Telling}
 use Rattle.coordination.specs.declared.halts.Halt.{Halt}
 use Rattle.coordination.specs.declared.halts.Halt.TheVariants.{NoMemory, Stopped}
 use Rattle.coordination.specs.declared.rule.Sight.{Sight}

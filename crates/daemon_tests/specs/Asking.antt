@@ -5,8 +5,7 @@ use Rattle.daemon_requirements.specs.declared.work.Isolation.{Isolation}
 use Rattle.daemon_requirements.specs.declared.work.Isolation.TheVariants.{InThread, Process}
 use Rattle.daemon_requirements.specs.declared.work.Work.{Work}
 use Rattle.resource_lock.specs.declared.marks.MarkId.TheVariants.{Unit as UnitOf}
-use Rattle.coordination.specs.Passes.{PassView}
-use Rattle.coordination.specs.Shown.{claimed_shown, lease_shown}
+use Rattle.coordination.specs.Names.{PassView, claimed_shown, lease_shown}
 use Rattle.item_work.specs.Sends.{IsNamedFor}
 
 -- each unit may ask for any daemon

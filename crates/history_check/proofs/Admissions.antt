@@ -1,13 +1,8 @@
 -- What the entries of a history come to by its check.
 use Rattle.std.proofs.Common.{◌≡◌, ℕ, List, [], ◌∷◌, ◌++◌, refl, sym, ap, subst, ◌∙◌, append-nil, inl, inr, ◌⊎◌, Option, Result, Ok, Err}
 use Rattle.std.specs.Prelude.{IfSome}
-use Rattle.resource_lock.specs.GraphView.{GraphView}
-use Rattle.resource_lock.specs.StateView.{StateView}
-use Rattle.resource_lock.specs.Opening.{opening_of}
+use Rattle.lock_journal.specs.Names.{GraphView, StateView, opening_of, BookView, Entry, effect, replay_from, Allowed, Lawful, lawful_from}
 use Rattle.file_access.specs.SourceView.{SourceView}
-use Rattle.lock_journal.specs.BookView.{BookView}
-use Rattle.lock_transforms.specs.Entry.{Entry, effect, replay_from}
-use Rattle.lock_transforms.specs.Allowed.{Allowed, Lawful, lawful_from}
 use Rattle.plan_reader.specs.PlanView.{PlanView}
 use Rattle.history_text.specs.HistoryView.{HistoryView}
 use Rattle.history_check.specs.CheckView.{CheckView, BeginsUnlawful, IsCheckOf}

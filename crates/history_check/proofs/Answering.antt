@@ -4,12 +4,10 @@ use Rattle.std.specs.Prelude.{IsErrAnd}
 use Rattle.std.specs.declared.alloc.AllocError.{AllocError}
 use Rattle.std.proofs.lemmas.Bool.{true≢false}
 use Rattle.item_actions.specs.Files.{Folder}
-use Rattle.lock_transforms.specs.Entry.{Entry}
-use Rattle.lock_transforms.specs.declared.entries.Closed.{Closed}
+use Rattle.lock_journal.specs.Names.{Entry, Closed, GraphView}
 use Rattle.file_access.specs.SourceView.{SourceView}
 use Rattle.plan_reader.specs.Graph.{graph_of}
 use Rattle.plan_reader.specs.PlanView.{PlanView}
-use Rattle.resource_lock.specs.GraphView.{GraphView}
 use Rattle.history_text.specs.HistoryView.{HistoryView}
 use Rattle.history_check.specs.Admitting.{AdmitsInput, IsAdmission, IsAdmissionOf, checked_of}
 use Rattle.history_check.specs.Checking.{Fails}

@@ -5,16 +5,8 @@ use Rattle.std.proofs.Math.Seq.{drop-cons}
 use Rattle.std.proofs.lemmas.Grind.{flat_map-append}
 use Rattle.std.proofs.lemmas.List.{take_more, take-append-drop}
 use Rattle.std.proofs.lemmas.Option.{slice_get_within, get_or_from_slice_get}
-use Rattle.resource_lock.specs.GraphView.{GraphView}
-use Rattle.resource_lock.specs.StateView.{StateView}
-use Rattle.resource_lock.specs.Opening.{opening_of}
-use Rattle.resource_lock.specs.declared.changes.Change.{Change}
-use Rattle.lock_transforms.specs.Allowed.{Allowed, IsKindOf, Lawful, lawful_from}
-use Rattle.lock_transforms.specs.Entry.{Entry, effect, replay_from}
-use Rattle.lock_transforms.specs.declared.entries.Closed.{Closed}
-use Rattle.lock_transforms.specs.declared.entries.Kind.{Kind}
-use Rattle.lock_transforms.specs.declared.entries.Kind.TheVariants.{Start, Skip, Submit, Park, Resume, Claim, Close, Block, Unblock, End, Acquire, HandBack}
-use Rattle.lock_journal.specs.ClosedBy.{closed_in}
+use Rattle.lock_journal.specs.Names.{GraphView, StateView, opening_of, Change, Allowed, IsKindOf, Lawful, lawful_from, Entry, effect, replay_from}
+use Rattle.lock_journal.specs.Names.{Closed, Kind, Start, Skip, Submit, Park, Resume, Claim, Close, Block, Unblock, End, Acquire, HandBack, closed_in}
 use Rattle.history_check.specs.Truth.{ClosesBehind, closing_at, closings_in}
 
 -- a history about one of its entries

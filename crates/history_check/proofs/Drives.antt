@@ -5,8 +5,7 @@ use Rattle.std.specs.List.{AllByRecursion}
 use Rattle.std.proofs.lemmas.List.{take_all, length-take-le}
 use Rattle.std.proofs.lemmas.Option.{slice_get_within}
 use Rattle.item_actions.specs.Files.{Folder}
-use Rattle.lock_transforms.specs.Entry.{Entry}
-use Rattle.lock_transforms.specs.declared.entries.Closed.{Closed}
+use Rattle.lock_journal.specs.Names.{Entry, Closed}
 use Rattle.plan_reader.specs.PlanView.{PlanView}
 use Rattle.history_check.specs.Truth.{AreTrue, IsTrueOn, closing_at, closings_in}
 use Rattle.history_check.specs.Driving.{AreDriven, IsStopCounted, ReadsFor}

@@ -1,12 +1,7 @@
 -- What admits entries, by what a book or a state under change says.
 use Rattle.std.proofs.Common.{◌≡◌, ℕ, List, [], ◌∷◌, length, length-append, Some, ap, ◌∙◌}
-use Rattle.resource_lock.specs.GraphView.{GraphView}
-use Rattle.resource_lock.specs.StateView.{StateView}
-use Rattle.resource_lock.specs.Opening.{opening_of}
-use Rattle.lock_transforms.specs.Entry.{Entry}
-use Rattle.lock_transforms.specs.TentativeView.{TentativeView}
-use Rattle.lock_journal.specs.BookView.{BookView, SameBook}
-use Rattle.lock_journal.specs.Admitting.{HasAdmitted, IsRefused}
+use Rattle.lock_journal.specs.Names.{GraphView, StateView, opening_of, Entry, TentativeView, BookView, HasAdmitted, IsRefused}
+use Rattle.lock_journal.specs.BookView.{SameBook}
 use Rattle.history_check.specs.AdmitterView.{AdmitterView, Admits, IsOpened, Refuses, book_admits}
 use Rattle.history_check.specs.Reached.{reached_view}
 

@@ -3,11 +3,7 @@ use Rattle.std.proofs.Common.{◌≡◌, ℕ, ◌+◌, suc, true, not, ◌&&◌,
 use Rattle.std.specs.List.{AllByRecursion, concat}
 use Rattle.std.proofs.lemmas.List.Folds.{list_all-append}
 use Rattle.std.proofs.lemmas.Bool.{and_parts, false≢true, true≢false}
-use Rattle.resource_lock.specs.StateView.{StateView}
-use Rattle.resource_lock.specs.GraphView.{GraphView}
-use Rattle.resource_lock.specs.Opening.{opening_of}
-use Rattle.lock_transforms.specs.Entry.{Entry, effect, replay_from}
-use Rattle.lock_transforms.specs.Allowed.{Allowed, lawful_from}
+use Rattle.lock_journal.specs.Names.{StateView, GraphView, opening_of, Entry, effect, replay_from, Allowed, lawful_from}
 use Rattle.plan_reader.specs.PlanView.{PlanView}
 use Rattle.plan_reader.specs.Graph.{graph_of}
 use Rattle.history_text.specs.Text.{numbered, entry_text, end_text}

@@ -2,14 +2,12 @@
 use Rattle.std.proofs.Common.{◌≡◌, ℕ, ◌+◌, ◌<◌, ◌≤◌, List, [], ◌∷◌, ◌++◌, length, map, take, get_or, Option, refl, sym, ap, subst, ◌∙◌, arith}
 use Rattle.std.specs.Prelude.{option_map}
 use Rattle.std.proofs.lemmas.List.{take_all, take_more, get_or-map, length-map, length-take-le}
-use Rattle.lock_transforms.specs.Entry.{Entry, entry}
-use Rattle.resource_lock.specs.declared.changes.Change.{Change}
+use Rattle.lock_journal.specs.Names.{Entry, entry, Change, GraphView}
 use Rattle.plan_reader.specs.PlanView.{PlanView}
 use Rattle.plan_reader.specs.Graph.{graph_of}
 use Rattle.history_text.specs.HistoryView.{HistoryView, history_view, entry_read}
 use Rattle.history_text.specs.declared.read_histories.History.{History}
 use Rattle.history_text.specs.declared.read_histories.HistoryEntry.{HistoryEntry}
-use Rattle.resource_lock.specs.GraphView.{GraphView}
 use Rattle.history_check.specs.CheckView.{CheckView, IsCheckOf, IsFresh, Adds}
 use Rattle.history_check.specs.Verdict.{IsVerdict, IsAnswerTo}
 use Rattle.history_check.specs.declared.checks.Checked.{Checked}

@@ -1,9 +1,7 @@
 -- The graph of a plan in which no task asks for all projects is the one that it had, with one lock more.
 use Rattle.std.proofs.Common.{◌≡◌, ℕ, ◌+◌, Bool, false, if◌then◌else◌, List, [], ◌∷◌, length, refl, ap, ◌∙◌}
 use Rattle.std.specs.List.{AllByRecursion}
-use Rattle.resource_lock.specs.GraphView.{GraphTaskView}
-use Rattle.resource_lock.specs.ProjectLocks.{project_lock}
-use Rattle.resource_lock.specs.declared.ids.LockId.{LockId}
+use Rattle.lock_journal.specs.Names.{GraphTaskView, project_lock, LockId}
 use Rattle.lock_journal.specs.PlainPlans.{with_all}
 use Rattle.plan_reader.specs.Graph.{all_projects_lock, graph_of, task_lock, tasks_from}
 use Rattle.plan_reader.specs.PlanView.{PlanTaskView, PlanView}

@@ -2,11 +2,7 @@
 use Rattle.std.proofs.Common.{◌≡◌, ◌≢◌, ℕ, ◌+◌, List, [], ◌∷◌, ◌++◌, length, length-append, refl, sym, ap, subst, ◌∙◌, append_assoc, append-nil, arith, Result, Ok, inl, inr, ◌⊎◌, true, false}
 use Rattle.std.proofs.Common.{Option, Some, None}
 use Rattle.std.specs.Prelude.{IfSome, option_map}
-use Rattle.resource_lock.specs.GraphView.{GraphView}
-use Rattle.resource_lock.specs.StateView.{StateView}
-use Rattle.resource_lock.specs.Opening.{opening_of}
-use Rattle.lock_transforms.specs.Entry.{Entry, effect, replay}
-use Rattle.lock_transforms.specs.Allowed.{Allowed, Lawful}
+use Rattle.lock_journal.specs.Names.{GraphView, StateView, opening_of, Entry, effect, replay, Allowed, Lawful, Change}
 use Rattle.lock_journal.proofs.lemmas.Replays.{lawful_from-push, replay_from-push}
 use Rattle.plan_reader.specs.PlanView.{PlanView}
 use Rattle.plan_reader.specs.Graph.{graph_of}
@@ -15,7 +11,6 @@ use Rattle.history_text.specs.HistoryView.{HistoryView, entry_with}
 use Rattle.history_text.specs.Lines.{AddsEntry}
 use Rattle.history_text.specs.LineValues.{IsEntryLine, IsLineInto}
 use Rattle.history_text.specs.declared.fails.TextFail.{TextFail}
-use Rattle.resource_lock.specs.declared.changes.Change.{Change}
 use Rattle.history_text.specs.declared.read_histories.EntryHead.{EntryHead}
 use Rattle.history_text.specs.declared.lines.LineHead.{LineHead}
 use Rattle.history_text.specs.declared.lines.LineHead.TheVariants as heads

@@ -1,11 +1,6 @@
 -- What admits entries, as contracts see it.
 use Rattle.std.specs.Prelude.{ℕ, ◌≡◌, ◌+◌, List, [], ◌∷◌, ◌++◌, length, Option, Some, IfSome, option_map}
-use Rattle.resource_lock.specs.GraphView.{GraphView}
-use Rattle.resource_lock.specs.StateView.{StateView}
-use Rattle.resource_lock.specs.Opening.{opening_of}
-use Rattle.lock_transforms.specs.Entry.{Entry, effect}
-use Rattle.lock_transforms.specs.Allowed.{Allowed}
-use Rattle.lock_journal.specs.BookView.{BookView}
+use Rattle.lock_journal.specs.Names.{GraphView, StateView, opening_of, Entry, effect, Allowed, BookView}
 
 -- the graph, the state that the entries lead to, how many they are, and the entries where they are kept
 pub record AdmitterView : Type 0 where

@@ -1,9 +1,6 @@
 -- What admitting the entries of a history comes to: the answer of a check, and the book of a lawful history.
 use Rattle.std.specs.Prelude.{ℕ, ◌≡◌, ◌⊎◌, Option, false, List, length, Some, Result, Ok, Err}
-use Rattle.resource_lock.specs.GraphView.{GraphView}
-use Rattle.lock_journal.specs.BookView.{BookView}
-use Rattle.lock_transforms.specs.Allowed.{Lawful}
-use Rattle.lock_transforms.specs.Entry.{Entry}
+use Rattle.lock_journal.specs.Names.{GraphView, BookView, Lawful, Entry}
 use Rattle.file_access.specs.SourceView.{SourceView}
 use Rattle.plan_reader.specs.PlanView.{PlanView}
 use Rattle.plan_reader.specs.Graph.{graph_of}

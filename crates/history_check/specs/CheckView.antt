@@ -1,10 +1,6 @@
 -- A check, as contracts see it, and of which history it is.
 use Rattle.std.specs.Prelude.{ℕ, ◌≡◌, ◌+◌, ◌<◌, ◌≤◌, ◌⊎◌, Bool, List, [], ◌∷◌, ◌++◌, length, Option, IfSome, option_map, Result, Ok, Err}
-use Rattle.resource_lock.specs.GraphView.{GraphView}
-use Rattle.resource_lock.specs.StateView.{StateView}
-use Rattle.resource_lock.specs.Opening.{opening_of}
-use Rattle.lock_transforms.specs.Entry.{Entry, effect, replay}
-use Rattle.lock_transforms.specs.Allowed.{Allowed, Lawful}
+use Rattle.lock_journal.specs.Names.{GraphView, StateView, opening_of, Entry, effect, replay, Allowed, Lawful}
 use Rattle.plan_reader.specs.PlanView.{PlanView}
 use Rattle.plan_reader.specs.Graph.{graph_of}
 use Rattle.history_text.specs.HistoryView.{HistoryView}

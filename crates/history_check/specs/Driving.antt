@@ -4,15 +4,12 @@ use Rattle.std.specs.declared.alloc.AllocError.{AllocError}
 use Rattle.item_actions.specs.Files.{Folder}
 use Rattle.item_actions.specs.Value.{IsHonest}
 use Rattle.item_actions.specs.declared.outcomes.Outcome.{Outcome}
-use Rattle.lock_transforms.specs.Allowed.{Lawful}
-use Rattle.lock_transforms.specs.Entry.{Entry, replay}
-use Rattle.lock_transforms.specs.declared.entries.Closed.{Closed}
+use Rattle.lock_journal.specs.Names.{Lawful, Entry, replay, Closed, GraphView}
 use Rattle.file_access.specs.Calls.{next}
 use Rattle.file_access.specs.SourceView.{SourceView}
 use Rattle.plan_reader.specs.Graph.{graph_of}
 use Rattle.plan_reader.specs.PlanView.{PlanView}
 use Rattle.plan_reader.specs.Units.{plan_units}
-use Rattle.resource_lock.specs.GraphView.{GraphView}
 use Rattle.history_text.specs.HistoryView.{HistoryView}
 use Rattle.history_check.specs.Admitting.{IsBookOf}
 use Rattle.history_check.specs.Checking.{Fails, IsJustDecided, all_given}

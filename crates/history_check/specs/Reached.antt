@@ -1,7 +1,6 @@
 -- What the fields of a `Reached` stand for, and what holds of them.
 use Rattle.std.specs.Prelude.{ℕ, ◌+◌, None, length}
-use Rattle.lock_transforms.specs.TentativeView.{TentativeView}
-use Rattle.lock_transforms.specs.MostChanges.{IsRoomFor}
+use Rattle.lock_journal.specs.Names.{TentativeView, IsRoomFor}
 use Rattle.history_check.specs.AdmitterView.{AdmitterView}
 
 -- the state of so many entries, none of which is kept

@@ -2,8 +2,7 @@
 use Rattle.std.specs.Prelude.{ℕ, ◌≡◌, List, [], ◌∷◌, Option, Some, None, Result, Ok, Err}
 use Rattle.item_actions.specs.Files.{Folder}
 use Rattle.item_actions.specs.Value.{IsHonest}
-use Rattle.lock_transforms.specs.Entry.{Entry}
-use Rattle.lock_transforms.specs.declared.entries.Closed.{Closed}
+use Rattle.lock_journal.specs.Names.{Entry, Closed}
 use Rattle.plan_reader.specs.PlanView.{PlanView}
 use Rattle.history_check.specs.Truth.{IsTrueOn, IsValueOf, closing_at}
 use Rattle.history_check.specs.declared.stops.Stop.{Stop}

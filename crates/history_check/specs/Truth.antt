@@ -4,9 +4,7 @@ use Rattle.std.specs.List.{AllByRecursion, flat_map}
 use Rattle.item_actions.specs.Files.{Folder}
 use Rattle.item_actions.specs.Value.{IsHonest}
 use Rattle.item_actions.specs.declared.outcomes.Outcome.{Outcome}
-use Rattle.lock_transforms.specs.Entry.{Entry}
-use Rattle.lock_transforms.specs.declared.entries.Closed.{Closed}
-use Rattle.lock_journal.specs.ClosedBy.{closed_in}
+use Rattle.lock_journal.specs.Names.{Entry, Closed, closed_in}
 use Rattle.plan_reader.specs.PlanView.{PlanView}
 use Rattle.plan_reader.specs.Units.{unit_value}
 

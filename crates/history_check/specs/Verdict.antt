@@ -1,8 +1,6 @@
 -- What is to be answered of the entries of a history.
 use Rattle.std.specs.Prelude.{ℕ, ◌≡◌, ◌+◌, ◌⊎◌, nat_eq, not, Bool, true, false, Option, None, Some, List, ◌∷◌, ◌++◌, length}
-use Rattle.resource_lock.specs.GraphView.{GraphView}
-use Rattle.lock_transforms.specs.Entry.{Entry, replay}
-use Rattle.lock_transforms.specs.Allowed.{Allowed, Lawful}
+use Rattle.lock_journal.specs.Names.{GraphView, Entry, replay, Allowed, Lawful}
 use Rattle.plan_reader.specs.PlanView.{PlanView}
 use Rattle.plan_reader.specs.Graph.{graph_of}
 use Rattle.history_text.specs.HistoryView.{HistoryView}

@@ -3,17 +3,11 @@ use Rattle.std.proofs.Common.{◌≡◌, ◌≢◌, ℕ, ◌≤◌, List, [], �
 use Rattle.std.specs.List.{AllByRecursion}
 use Rattle.std.proofs.lemmas.Bool.{and_parts, eqb-true}
 use Rattle.std.proofs.lemmas.List.Elements.{recursion_from_All}
-use Rattle.resource_lock.specs.StateView.{StateView}
-use Rattle.resource_lock.specs.GraphView.{GraphView}
-use Rattle.resource_lock.specs.Fits.{Fits}
-use Rattle.resource_lock.specs.Opening.{opening_of}
-use Rattle.resource_lock.specs.Shape.{BelongsTo}
-use Rattle.resource_lock.specs.Change.{NamesOnly, names_only, can, can_all, make}
+use Rattle.lock_journal.specs.Names.{StateView, GraphView, Fits, opening_of, BelongsTo, NamesOnly, names_only, can, can_all, make, Entry, effect}
+use Rattle.lock_journal.specs.Names.{changed, IsKindOf, Finishes, lawful_from, Lawful, IsFitKind}
 use Rattle.resource_lock.proofs.lemmas.Runs.{same_shape-make, same_shape-make_all, belongs_along, belongs_opening, all_named_along}
 use Rattle.resource_lock.proofs.lemmas.Units.{few_actions_in_all}
-use Rattle.lock_transforms.specs.Entry.{Entry, effect, changed}
-use Rattle.lock_transforms.specs.Allowed.{IsKindOf, Finishes, lawful_from, Lawful}
-use Rattle.lock_journal.specs.Bounds.{IsFitOutcome, IsFitKind}
+use Rattle.lock_journal.specs.Bounds.{IsFitOutcome}
 use Rattle.plan_reader.specs.declared.limits.TheConstants.{MAX_LEASES, MAX_WORKERS}
 use Rattle.history_text.specs.Fitting.{MarkFits, ChangeFits, ChangesFit, OutcomeFits, KindFits, EffectFits, EntriesFit, HeadFits}
 use Rattle.history_text.specs.Plain.{WorkerId, MarkId, TaskOf, ActionOf, UnitOf, Mark, Waiting, Queued, Running, Passed, Failed, Skipped, Change, Lock, Unlock, Take, Give, Move, Park, Unpark, Enter, Leave, Outcome, Number, Digest, NotThere, TooLong, Fault, NoMemory, NotRun, Kind, Start, Skip, Submit, ParkFor, Resume, Claim, Close, Block, Unblock, End, Acquire, HandBack}

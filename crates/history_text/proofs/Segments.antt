@@ -3,9 +3,8 @@ use Rattle.std.proofs.Common.{◌≡◌, ℕ, ◌+◌, Bool, Option, List, [], �
 use Rattle.std.specs.List.{All, flat_map}
 use Rattle.std.proofs.lemmas.List.{drop-drop, take-append-drop}
 use Rattle.std.proofs.lemmas.List.Elements.{All-head, All-tail}
-use Rattle.lock_transforms.specs.Entry.{Entry}
+use Rattle.lock_journal.specs.Names.{Entry, SegmentView}
 use Rattle.lock_journal.specs.Giving.{AreInTurn, IsCutFrom, joined}
-use Rattle.lock_journal.specs.SegmentView.{SegmentView}
 use Rattle.history_text.specs.Text.{end_text, entry_text, head_text, history_text, numbered, segment_lines}
 use Rattle.history_text.proofs.lemmas.Numbering.{numbered-append}
 

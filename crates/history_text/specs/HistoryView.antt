@@ -1,9 +1,7 @@
 -- A history that was read, without where its lists lie in memory.
 use Rattle.std.specs.Prelude.{ℕ, Bool, List, map, Option, Some, None, if◌then◌else◌}
 use Rattle.std.specs.Option.{option_map}
-use Rattle.lock_journal.specs.BookView.{BookView}
-use Rattle.lock_transforms.specs.Entry.{Entry, entry}
-use Rattle.resource_lock.specs.declared.changes.Change.{Change}
+use Rattle.lock_journal.specs.Names.{BookView, Entry, entry, Change}
 use Rattle.history_text.specs.declared.read_histories.EntryHead.{EntryHead}
 use Rattle.history_text.specs.declared.read_histories.History.{History}
 use Rattle.history_text.specs.declared.read_histories.HistoryEntry.{HistoryEntry}

@@ -1,12 +1,11 @@
 -- What one line says, by how many entries stand before it.
 use Rattle.std.specs.Prelude.{ℕ, ◌≡◌, ◌≢◌, ◌+◌, List, Result, Ok, Err}
-use Rattle.lock_transforms.specs.Entry.{Entry}
+use Rattle.lock_journal.specs.Names.{Entry, Change}
 use Rattle.history_text.specs.Text.{entry_text, end_text}
 use Rattle.history_text.specs.Fitting.{EntryFits}
 use Rattle.history_text.specs.HistoryView.{entry_read, entry_with}
 use Rattle.history_text.specs.declared.fails.TextFail.{TextFail}
 use Rattle.history_text.specs.declared.fails.TextFail.TheVariants.{Stops, NoMemory}
-use Rattle.resource_lock.specs.declared.changes.Change.{Change}
 use Rattle.history_text.specs.declared.lines.LineHead.{LineHead}
 use Rattle.history_text.specs.declared.lines.LineHead.TheVariants as heads
 use Rattle.history_text.specs.declared.lines.LineValue.{LineValue}

@@ -6,11 +6,7 @@ use Rattle.item_actions.specs.Words.{action_word, kind_of_action, kind_of_outcom
 use Rattle.item_actions.specs.declared.actions.ItemAction.{ItemAction}
 use Rattle.item_actions.specs.declared.outcomes.Outcome.{Outcome}
 use Rattle.item_actions.specs.declared.outcomes.Outcome.TheVariants as outcomes
-use Rattle.resource_lock.specs.declared.marks.Mark.{Mark}
-use Rattle.resource_lock.specs.declared.marks.Mark.TheVariants.{Failed, Skipped}
-use Rattle.resource_lock.specs.declared.marks.MarkId.TheVariants.{Task as TaskOf}
-use Rattle.resource_lock.specs.StateView.{StateView, mark_of}
-use Rattle.lock_transforms.specs.Table.{has_passed}
+use Rattle.lock_journal.specs.Names.{Mark, Failed, Skipped, TaskOf, StateView, mark_of, has_passed}
 use Rattle.plan_reader.specs.PlanView.{PlanTaskView, PlanView}
 use Rattle.plan_reader.specs.Units.{PlannedUnit, task_units, plan_units}
 use Rattle.history_text.specs.Text.{mark_text, hex_text, numbered}

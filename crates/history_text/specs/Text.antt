@@ -5,17 +5,10 @@ use Rattle.std.specs.Fmt.{digit_glyph}
 use Rattle.item_actions.specs.Words.{kind_of_outcome, outcome_word}
 use Rattle.item_actions.specs.declared.outcomes.Outcome.{Outcome}
 use Rattle.item_actions.specs.declared.outcomes.Outcome.TheVariants as outcomes
-use Rattle.resource_lock.specs.declared.marks.MarkId.{MarkId}
-use Rattle.resource_lock.specs.declared.marks.MarkId.TheVariants.{Task as TaskOf, Action as ActionOf, Unit as UnitOf}
-use Rattle.resource_lock.specs.declared.marks.Mark.{Mark}
-use Rattle.resource_lock.specs.declared.marks.Mark.TheVariants.{Waiting, Queued, Running, Passed, Failed, Skipped}
-use Rattle.resource_lock.specs.declared.changes.Change.{Change}
-use Rattle.resource_lock.specs.declared.changes.Change.TheVariants.{Lock, Unlock, Take, Give, Move, Park, Unpark, Enter, Leave}
-use Rattle.lock_transforms.specs.declared.entries.Closed.{Closed}
-use Rattle.lock_transforms.specs.declared.entries.Kind.{Kind}
+use Rattle.lock_journal.specs.Names.{MarkId, TaskOf, ActionOf, UnitOf, Mark, Waiting, Queued, Running, Passed, Failed, Skipped, Change, Lock, Unlock}
+use Rattle.lock_journal.specs.Names.{Take, Give, Move, Unpark, Enter, Leave, Closed, Kind, Entry, SegmentView}
+use Rattle.resource_lock.specs.declared.changes.Change.TheVariants.{Park}
 use Rattle.lock_transforms.specs.declared.entries.Kind.TheVariants as kinds
-use Rattle.lock_transforms.specs.Entry.{Entry}
-use Rattle.lock_journal.specs.SegmentView.{SegmentView}
 
 abbrev pub mark_text : Mark → List ℕ
 mark_text Waiting = codes "waiting"

@@ -1,7 +1,6 @@
 -- A book that is run, and its history, which is shown.
 use Rattle.std.proofs.Common.{◌≡◌, ◌-◌, Option, None, Some, IfSome, List, [], ◌∷◌, ◌++◌, length, take, refl, ap, sym, ◌∙◌, arith, length-append}
-use Rattle.lock_transforms.specs.Entry.{Entry, replay}
-use Rattle.lock_journal.specs.BookView.{BookView}
+use Rattle.lock_journal.specs.Names.{Entry, replay, BookView}
 use Rattle.history_views.specs.Growing.{IsLater, ReachView, last_book}
 use Rattle.history_views.specs.ShownBooks.{IsOnStage, IsTaken, IsUnchanged, SameHistory}
 

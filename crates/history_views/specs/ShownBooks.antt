@@ -1,8 +1,7 @@
 -- A book that is shown.
 use Rattle.std.specs.Prelude.{◌≡◌, ◌-◌, Option, None, Some, length, take}
 use Rattle.logbook.specs.Pages.{Book}
-use Rattle.lock_transforms.specs.Entry.{prefix_state}
-use Rattle.lock_journal.specs.BookView.{BookView}
+use Rattle.lock_journal.specs.Names.{prefix_state, BookView}
 use Rattle.history_views.specs.Growing.{ReachView, last_book}
 
 -- the book, and the ledger that has its history, where it is shown

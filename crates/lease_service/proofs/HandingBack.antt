@@ -1,22 +1,11 @@
 -- What handing back leaves, and that it can be done.
 use Rattle.std.proofs.Common.{◌≡◌, ◌≢◌, ◌⊎◌, Bool, true, false, cond, ◌||◌, List, [], ◌∷◌, ◌++◌, map, inl, inr, refl, sym, ap, ◌∙◌, arith}
 use Rattle.std.proofs.lemmas.Bool.{and_from, false≢true, le-ltb}
-use Rattle.resource_lock.specs.Change.{holding_after}
-use Rattle.resource_lock.specs.StateView.{Holding, holding_of, owns_any}
-use Rattle.resource_lock.specs.declared.changes.Change.{Change}
-use Rattle.resource_lock.specs.declared.changes.Change.TheVariants.{Unlock, Give}
-use Rattle.resource_lock.specs.declared.ids.LockId.{LockId}
-use Rattle.resource_lock.specs.declared.ids.WorkerId.{WorkerId}
-use Rattle.resource_lock.specs.declared.marks.MarkId.{MarkId}
-use Rattle.lock_transforms.specs.Allowed.{IsFixedList, IsUnmet}
-use Rattle.lock_journal.specs.BookView.{BookView}
-use Rattle.lock_transforms.specs.Table.{condition}
+use Rattle.lock_journal.specs.Names.{holding_after, Holding, holding_of, owns_any, Change, Unlock, Give, LockId, WorkerId, MarkId, IsFixedList}
+use Rattle.lock_journal.specs.Names.{IsUnmet, BookView, condition, after_all, claimed_after, lock_before, locks_after, without_member}
 use Rattle.lock_transforms.specs.declared.entries.Kind.TheVariants as kinds
-use Rattle.lock_journal.specs.OwnChanges.{after_all, claimed_after, lock_before, locks_after, without_member}
+use Rattle.coordination.specs.Names.{Finds, HasFinished, WasStopped, blocked_shown, claimed_shown, lease_shown, locks_shown}
 use Rattle.coordination.specs.declared.rule.Sight.{Sight}
-use Rattle.coordination.specs.Agrees.{Finds}
-use Rattle.coordination.specs.Calls.{HasFinished, WasStopped}
-use Rattle.coordination.specs.Shown.{blocked_shown, claimed_shown, lease_shown, locks_shown}
 use Rattle.coordination.proofs.lemmas.Shown.{shows_left}
 use Rattle.lease_service.specs.Shows.{ShowsGivenBack}
 use Rattle.lock_journal.proofs.lemmas.Owned.{owns_some}

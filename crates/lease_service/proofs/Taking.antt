@@ -3,26 +3,14 @@ use Rattle.std.proofs.Common.{◌≡◌, ◌<◌, ◌⊎◌, Bool, true, false, 
 use Rattle.std.specs.List.{All, filter, list_all}
 use Rattle.std.proofs.lemmas.Bool.{and_from, false≢true, lt-ltb}
 use Rattle.std.proofs.lemmas.List.Elements.{All-head, All-tail}
-use Rattle.resource_lock.specs.Change.{holding_after}
-use Rattle.resource_lock.specs.GraphView.{GraphView}
-use Rattle.resource_lock.specs.StateView.{Holding, StateView, has_parked, holding_of, owns, runs_any, stands_in}
-use Rattle.resource_lock.specs.declared.changes.Change.{Change}
-use Rattle.resource_lock.specs.declared.changes.Change.TheVariants.{Lock, Take}
-use Rattle.resource_lock.specs.declared.ids.LockId.{LockId}
-use Rattle.resource_lock.specs.declared.ids.WorkerId.{WorkerId}
-use Rattle.resource_lock.specs.declared.marks.MarkId.{MarkId}
-use Rattle.lock_journal.specs.BookView.{BookView}
-use Rattle.lock_transforms.specs.Table.{condition}
-use Rattle.lock_transforms.specs.Taking.{acquired, can_take_all, is_open, may_acquire}
-use Rattle.lock_transforms.specs.declared.entries.Kind.{Kind}
+use Rattle.lock_journal.specs.Names.{holding_after, GraphView, Holding, StateView, has_parked, holding_of, owns, runs_any, stands_in, Change, Lock}
+use Rattle.lock_journal.specs.Names.{Take, LockId, WorkerId, MarkId, BookView, condition, acquired, can_take_all, is_open, may_acquire, Kind}
+use Rattle.lock_journal.specs.Names.{after_all, claimed_after, lock_before, locks_after, with_member}
 use Rattle.lock_transforms.specs.declared.entries.Kind.TheVariants as kinds
-use Rattle.lock_journal.specs.OwnChanges.{after_all, claimed_after, lock_before, locks_after, with_member}
 use Rattle.lock_journal.proofs.lemmas.Claims.{runs_nothing}
 use Rattle.lock_journal.proofs.lemmas.Owned.{filter_same, stands_in_owned}
+use Rattle.coordination.specs.Names.{Finds, HasFailed, HasFinished, WasStopped, claimed_shown, locks_shown}
 use Rattle.coordination.specs.declared.rule.Sight.{Sight}
-use Rattle.coordination.specs.Agrees.{Finds}
-use Rattle.coordination.specs.Calls.{HasFailed, HasFinished, WasStopped}
-use Rattle.coordination.specs.Shown.{claimed_shown, locks_shown}
 use Rattle.coordination.proofs.lemmas.Shown.{shows_left, stopped_for}
 use Rattle.lease_service.specs.Shows.{MayTake, ShowsTaken, with_locks}
 

@@ -1,10 +1,7 @@
 -- What a pass shows before and after its calls.
 use Rattle.std.specs.Prelude.{◌≡◌, ◌<◌, true, false, not, List, [], ◌∷◌}
 use Rattle.std.specs.List.{All, filter}
-use Rattle.resource_lock.specs.StateView.{stands_in}
-use Rattle.resource_lock.specs.declared.ids.LockId.{LockId}
-use Rattle.lock_transforms.specs.Taking.{rises}
-use Rattle.lock_journal.specs.OwnChanges.{lock_before, with_member}
+use Rattle.lock_journal.specs.Names.{stands_in, LockId, rises, lock_before, with_member}
 use Rattle.coordination.specs.declared.rule.Sight.{Sight}
 use Rattle.coordination.specs.Shown.{Shows, blocked_shown, claimed_shown, locks_shown, parked_shown}
 

@@ -5,13 +5,9 @@ use Rattle.std.specs.List.{AllByRecursion, slice_index_or}
 use Rattle.std.proofs.lemmas.List.{length-append, length-take-le, take-append-drop}
 use Rattle.std.proofs.lemmas.Option.{slice_get_read}
 use Rattle.std.proofs.Math.Seq.{get_or-append_seam, take-append_seam}
-use Rattle.resource_lock.specs.declared.changes.Change.{Change}
-use Rattle.lock_transforms.specs.Entry.{entry}
-use Rattle.lock_transforms.specs.declared.entries.Closed.{Closed}
-use Rattle.lock_transforms.specs.declared.entries.Kind.{Kind}
-use Rattle.lock_journal.specs.Segment.{segment_view, IsSoundSegment}
-use Rattle.lock_journal.specs.StoredChange.{IsOwnChange, change_of_worker, stored_change}
-use Rattle.lock_journal.specs.StoredEntry.{AreStored, IsLastNumber, closings_until, entries_from, entry_from, kind_from, place_by, place_in, KeepEarlier}
+use Rattle.lock_journal.specs.Names.{Change, entry, Closed, Kind, segment_view, IsSoundSegment, IsOwnChange, change_of_worker, stored_change}
+use Rattle.lock_journal.specs.Names.{AreStored, IsLastNumber, closings_until, entries_from, entry_from, kind_from, place_by, place_in}
+use Rattle.lock_journal.specs.StoredEntry.{KeepEarlier}
 use Rattle.lock_journal.specs.declared.segments.Segment.TheInside.{Inside}
 use Rattle.lock_journal.specs.declared.segments.TheConstants.{MOST_BEFORE, NOWHERE}
 use Rattle.lock_journal.specs.declared.stored_entries.TheConstants.{MOST_PLACES}

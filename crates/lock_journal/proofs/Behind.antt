@@ -3,10 +3,8 @@ use Rattle.std.proofs.Common.{◌≡◌, ℕ, zero, suc, ◌+◌, ◌-◌, ◌<�
 use Rattle.std.specs.Prelude.{slice_get}
 use Rattle.std.proofs.lemmas.List.{length-append, nil_from_length}
 use Rattle.std.proofs.Math.Seq.{drop-append_seam, take-append-add}
-use Rattle.lock_transforms.specs.Entry.{Entry}
-use Rattle.lock_journal.specs.HistoryView.{HistoryView, history_of}
-use Rattle.lock_journal.specs.LastChanges.{last_changes, made_by}
-use Rattle.lock_journal.specs.SegmentView.{SegmentView}
+use Rattle.lock_journal.specs.Names.{Entry, HistoryView, last_changes, made_by, SegmentView}
+use Rattle.lock_journal.specs.HistoryView.{history_of}
 
 pub end_of : (past kept : List Entry) (n : ℕ) → n ≡ length past → n + length kept ≡ length (past ++ kept)
 end_of past kept n is = omega (arith, length-append past kept)

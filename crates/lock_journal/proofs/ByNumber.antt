@@ -1,15 +1,10 @@
 -- Each unit of a graph belongs to the action that is found by its number.
 use Rattle.std.proofs.Common.{◌≡◌, ℕ, zero, suc, ◌+◌, ◌<◌, ◌≤◌, Bool, true, false, List, [], ◌∷◌, length, get_or, refl, sym, ◌∙◌, ap, subst, arith, ◌⊎◌, inl, inr, cond}
 use Rattle.std.proofs.lemmas.Bool.{cases_lt, and_from, and_right, le-leb, lt-ltb, le-ltb}
-use Rattle.resource_lock.specs.GraphView.{GraphView, action_of, no_action}
-use Rattle.resource_lock.specs.Fits.{Fits, Follow}
-use Rattle.resource_lock.specs.Ranges.{IsIn, IsUnitOf, units_in, fetches, first_item, task_with}
-use Rattle.resource_lock.specs.declared.graphs.GraphAction.{GraphAction}
+use Rattle.lock_journal.specs.Names.{GraphView, action_of, no_action, Fits, Follow, IsIn, IsUnitOf, units_in, fetches, first_item, task_with}
+use Rattle.lock_journal.specs.Names.{GraphAction, outcome_in, Entry, outcome_by, ComesTo}
 use Rattle.item_actions.specs.declared.outcomes.Outcome.{Outcome}
-use Rattle.lock_journal.specs.Closings.{outcome_in}
-use Rattle.lock_transforms.specs.Entry.{Entry}
-use Rattle.lock_journal.specs.ByNumber.{has_unit, first_with, action_with, outcome_by}
-use Rattle.lock_journal.specs.Runs.{ComesTo}
+use Rattle.lock_journal.specs.ByNumber.{has_unit, first_with, action_with}
 
 record IsFoundAt (u : ℕ) (xs : List GraphAction) (m k : ℕ) : Type 0 where
   index : ℕ

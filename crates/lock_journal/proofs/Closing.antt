@@ -1,24 +1,13 @@
 -- A unit whose work was done was closed by one entry, and any other by none.
 use Rattle.std.proofs.Common.{◌≡◌, ◌≢◌, ℕ, ◌==◌, Bool, true, false, cond, List, [], ◌∷◌, Option, Some, None, refl, sym, ap, ◌∙◌, subst, inl, inr}
 use Rattle.std.specs.List.{AllByRecursion}
-use Rattle.resource_lock.specs.declared.changes.Change.{Change}
-use Rattle.resource_lock.specs.declared.marks.Mark.{Mark}
-use Rattle.resource_lock.specs.declared.marks.Mark.TheVariants.{Waiting, Passed, Failed}
-use Rattle.resource_lock.specs.declared.marks.MarkId.TheVariants.{Unit as UnitOf}
-use Rattle.resource_lock.specs.Fits.{Fits}
-use Rattle.resource_lock.specs.Opening.{opening_of}
-use Rattle.resource_lock.specs.GraphView.{GraphView}
-use Rattle.resource_lock.specs.StateView.{StateView, mark_of}
+use Rattle.lock_journal.specs.Names.{Change, Mark, Waiting, Passed, Failed, UnitOf, Fits, opening_of, GraphView, StateView, mark_of, Kind, Close}
+use Rattle.lock_journal.specs.Names.{Unblock, IsKindOf, lawful_from, Lawful, closing_of, where_finished, closings, last_or, outcome_in, Entry, effect}
+use Rattle.lock_journal.specs.Names.{replay, has_passed, mark_from, IsDone}
 use Rattle.item_actions.specs.declared.outcomes.Outcome.{Outcome}
 use Rattle.item_actions.specs.declared.outcomes.Outcome.TheVariants.{Number, Digest, Skipped as NotRun}
 use Rattle.item_actions.specs.Value.{passes}
-use Rattle.lock_transforms.specs.declared.entries.Kind.{Kind}
-use Rattle.lock_transforms.specs.declared.entries.Kind.TheVariants.{Close, Unblock}
-use Rattle.lock_transforms.specs.Allowed.{IsKindOf, lawful_from, Lawful}
-use Rattle.lock_journal.specs.Closings.{closing_of, where_finished, closings, last_or, outcome_in}
-use Rattle.lock_transforms.specs.Entry.{Entry, effect, replay}
-use Rattle.lock_transforms.specs.Table.{has_passed, mark_from}
-use Rattle.lock_journal.specs.Closing.{IsDone, IsClosedOnce}
+use Rattle.lock_journal.specs.Closing.{IsClosedOnce}
 use Rattle.lock_journal.proofs.lemmas.Fitting.{apart_of}
 use Rattle.lock_journal.proofs.History.{ClosedAs}
 use Rattle.lock_journal.proofs.Ranges.{each-append}

@@ -1,18 +1,9 @@
 -- What the condition of each kind says of marks.
 use Rattle.std.specs.Prelude.{ℕ, ◌≡◌, ◌<◌, ◌⊎◌, Bool, Some}
 use Rattle.std.specs.List.{Any, list_all}
-use Rattle.resource_lock.specs.declared.ids.WorkerId.{WorkerId}
-use Rattle.resource_lock.specs.declared.marks.Mark.{Mark}
-use Rattle.resource_lock.specs.declared.marks.Mark.TheVariants.{Waiting, Queued, Running, Passed, Failed, Skipped}
-use Rattle.resource_lock.specs.declared.marks.MarkId.TheVariants.{Task as TaskOf, Action as ActionOf, Unit as UnitOf}
-use Rattle.resource_lock.specs.GraphView.{GraphView, task_of, action_of}
-use Rattle.resource_lock.specs.Ranges.{actions_of, IsActionOf, IsItemOf, IsFetchOf, IsUnitOf}
-use Rattle.resource_lock.specs.StateView.{StateView, mark_of}
-use Rattle.lock_transforms.specs.declared.entries.Kind.{Kind}
-use Rattle.lock_transforms.specs.declared.entries.Kind.TheVariants.{Start, Skip, Submit, Park, Resume, Claim, Close, Block, Unblock, End}
-use Rattle.lock_transforms.specs.Table.{units_passed}
-use Rattle.lock_journal.specs.Closing.{IsDone}
-use Rattle.lock_journal.specs.Marks.{IsEnded, AfterPassed}
+use Rattle.lock_journal.specs.Names.{WorkerId, Mark, Waiting, Queued, Running, Passed, Failed, Skipped, TaskOf, ActionOf, UnitOf, GraphView, task_of}
+use Rattle.lock_journal.specs.Names.{action_of, actions_of, IsActionOf, IsItemOf, IsFetchOf, IsUnitOf, StateView, mark_of, Kind, Start, Skip, Submit}
+use Rattle.lock_journal.specs.Names.{Park, Resume, Claim, Close, Block, Unblock, End, units_passed, IsDone, IsEnded, AfterPassed}
 
 abbrev pub HasFallen : Mark → Type 0
 HasFallen m = (m ≡ Failed) ⊎ (m ≡ Skipped)

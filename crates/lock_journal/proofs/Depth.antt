@@ -4,10 +4,9 @@ use Rattle.std.specs.List.{All, list_all, AllByRecursion}
 use Rattle.std.proofs.lemmas.Bool.{cases_lt}
 use Rattle.std.proofs.lemmas.List.{get_or_past}
 use Rattle.std.proofs.lemmas.List.Elements.{recursion_from_All}
-use Rattle.resource_lock.specs.GraphView.{GraphView, no_task, task_of}
+use Rattle.lock_journal.specs.Names.{GraphView, no_task, task_of, has_passed, task_passes, task_outcome, AreRanks}
 use Rattle.item_actions.specs.declared.outcomes.Outcome.{Outcome}
-use Rattle.lock_transforms.specs.Table.{has_passed}
-use Rattle.lock_journal.specs.Outcomes.{mark_by, task_passes, task_outcome, AreRanks}
+use Rattle.lock_journal.specs.Outcomes.{mark_by}
 
 same_tests : (f k : ℕ → Bool) (xs : List ℕ) → AllByRecursion (λ x. f x ≡ k x) xs → list_all f xs ≡ list_all k xs
 same_tests f k [] h = refl

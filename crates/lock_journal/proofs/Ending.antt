@@ -3,16 +3,8 @@ use Rattle.std.proofs.Common.{ℕ, suc, ◌+◌, ◌<◌, ◌≤◌, ◌⊎◌, 
 use Rattle.std.specs.List.{All}
 use Rattle.std.proofs.lemmas.Bool.{cases_lt}
 use Rattle.std.proofs.lemmas.List.Elements.{All-from_get_or}
-use Rattle.resource_lock.specs.declared.marks.Mark.{Mark}
-use Rattle.resource_lock.specs.declared.marks.Mark.TheVariants.{Waiting, Passed, Failed, Skipped}
-use Rattle.resource_lock.specs.declared.marks.MarkId.TheVariants.{Task as TaskOf, Action as ActionOf, Unit as UnitOf}
-use Rattle.resource_lock.specs.Fits.{Follow, Fits}
-use Rattle.resource_lock.specs.GraphView.{GraphView, no_action, action_of}
-use Rattle.resource_lock.specs.Ranges.{IsIn, units_in}
-use Rattle.resource_lock.specs.StateView.{StateView, mark_of}
-use Rattle.lock_transforms.specs.Allowed.{Lawful}
-use Rattle.lock_transforms.specs.Entry.{Entry, replay}
-use Rattle.lock_journal.specs.Marks.{IsEnded, HasEnded}
+use Rattle.lock_journal.specs.Names.{Mark, Waiting, Passed, Failed, Skipped, TaskOf, ActionOf, UnitOf, Follow, Fits, GraphView, no_action, action_of}
+use Rattle.lock_journal.specs.Names.{IsIn, units_in, StateView, mark_of, Lawful, Entry, replay, IsEnded, HasEnded}
 use Rattle.lock_journal.proofs.lemmas.Fitting.{apart_of}
 use Rattle.lock_journal.proofs.Kept.{TaskFact, WholeEnded, IsKept}
 use Rattle.lock_journal.proofs.Ranges.{unit_of_range}

@@ -1,22 +1,12 @@
 -- What the index follows where an entry was added.
 use Rattle.std.proofs.Common.{◌≡◌, ℕ, true, List, Some, inl, refl, subst}
-use Rattle.resource_lock.specs.GraphView.{GraphView}
+use Rattle.lock_journal.specs.Names.{GraphView, BelongsTo, StateView, Change, WorkerId, IsListOf, entry, mark_from, TentativeView, Closed, Kind}
+use Rattle.lock_journal.specs.Names.{Claim, Close}
 use Rattle.resource_lock.specs.Marks.{has_ended}
-use Rattle.resource_lock.specs.Shape.{BelongsTo}
-use Rattle.resource_lock.specs.StateView.{StateView}
-use Rattle.resource_lock.specs.declared.changes.Change.{Change}
-use Rattle.resource_lock.specs.declared.ids.WorkerId.{WorkerId}
 use Rattle.item_actions.specs.declared.outcomes.Outcome.{Outcome}
 use Rattle.item_actions.specs.declared.outcomes.Outcome.TheVariants.{Digest, NotThere, Number}
 use Rattle.ready_work.specs.ReadyWork.{Follows, FollowsOn, claimed_unit, closed_unit}
 use Rattle.ready_work.specs.declared.ready_works.ReadyWork.{ReadyWork}
-use Rattle.lock_transforms.specs.Allowed.{IsListOf}
-use Rattle.lock_transforms.specs.Entry.{entry}
-use Rattle.lock_transforms.specs.Table.{mark_from}
-use Rattle.lock_transforms.specs.TentativeView.{TentativeView}
-use Rattle.lock_transforms.specs.declared.entries.Closed.{Closed}
-use Rattle.lock_transforms.specs.declared.entries.Kind.{Kind}
-use Rattle.lock_transforms.specs.declared.entries.Kind.TheVariants.{Claim, Close}
 use Rattle.lock_journal.specs.Book.{FollowsEntry}
 
 -- the mark that an outcome gives is an end

@@ -1,22 +1,9 @@
 -- What a finished entry leaves for certain: marks that have ended stay, and those that its kind moves have moved.
 use Rattle.std.proofs.Common.{◌≡◌, ℕ, ◌<◌, true, List, [], ◌∷◌, length, refl, sym, ap, subst, inl, inr, arith, Some, cond}
-use Rattle.resource_lock.specs.declared.changes.Change.{Change}
-use Rattle.resource_lock.specs.declared.changes.Change.TheVariants.{Move, Unlock, Give}
-use Rattle.resource_lock.specs.declared.ids.WorkerId.{WorkerId}
-use Rattle.resource_lock.specs.declared.marks.Mark.{Mark}
-use Rattle.resource_lock.specs.declared.marks.Mark.TheVariants.{Waiting, Running, Skipped}
-use Rattle.resource_lock.specs.declared.marks.MarkId.{MarkId}
-use Rattle.resource_lock.specs.declared.marks.MarkId.TheVariants.{Task as TaskOf, Action as ActionOf, Unit as UnitOf}
-use Rattle.resource_lock.specs.Change.{same_mark, make_all, can_all}
-use Rattle.resource_lock.specs.GraphView.{GraphView, task_of}
-use Rattle.resource_lock.specs.Ranges.{actions_of, units_of, IsActionOf, IsUnitOf}
-use Rattle.resource_lock.specs.Shape.{BelongsTo}
-use Rattle.resource_lock.specs.StateView.{StateView, holding_of, mark_of, IsMarkOf}
-use Rattle.lock_transforms.specs.declared.entries.Kind.{Kind}
-use Rattle.lock_transforms.specs.declared.entries.Kind.TheVariants.{Start, Skip, Submit, Claim, Close, Unblock, End}
-use Rattle.lock_transforms.specs.Allowed.{IsListOf, IsKindOf}
-use Rattle.lock_transforms.specs.Table.{mark_from, end_mark, moved_units, skipped_action, skipped_actions, skipped_waiting, taken_up}
-use Rattle.lock_journal.specs.Marks.{IsEnded}
+use Rattle.lock_journal.specs.Names.{Change, Move, Unlock, Give, WorkerId, Mark, Waiting, Running, Skipped, MarkId, TaskOf, ActionOf, UnitOf}
+use Rattle.lock_journal.specs.Names.{same_mark, make_all, can_all, GraphView, task_of, actions_of, units_of, IsActionOf, IsUnitOf, BelongsTo}
+use Rattle.lock_journal.specs.Names.{StateView, holding_of, mark_of, IsMarkOf, Kind, Start, Skip, Submit, Claim, Close, Unblock, End, IsListOf}
+use Rattle.lock_journal.specs.Names.{IsKindOf, mark_from, end_mark, moved_units, skipped_action, skipped_actions, skipped_waiting, taken_up, IsEnded}
 use Rattle.lock_journal.proofs.Marks.{AllMoves-weaker, StaysOrMoves, stays_or_moves, moves_to, GoesTo, Names, Names-append_left, Names-append_right}
 use Rattle.lock_journal.proofs.Moves.{MayMove, moves_not_ended, list_moves}
 use Rattle.lock_journal.proofs.Ranges.{Has, has_unit, has_action}

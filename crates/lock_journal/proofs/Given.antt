@@ -1,16 +1,9 @@
 -- A book that gave its entries away, or whose changes aren't noted any more.
 use Rattle.std.proofs.Common.{◌≡◌, ◌≤◌, ◌+◌, [], length, inl, sym, ◌∙◌, ap, subst}
 use Rattle.std.specs.List.{All}
-use Rattle.resource_lock.specs.GraphView.{GraphView}
-use Rattle.resource_lock.specs.StateView.{StateView}
+use Rattle.lock_journal.specs.Names.{GraphView, StateView, Lawful, Entry, replay, TentativeView, AreLastOrNone, IsSound, IsFitKind, HistoryView}
 use Rattle.ready_work.specs.ReadyWork.{IsIndexOf}
-use Rattle.lock_transforms.specs.Allowed.{Lawful}
-use Rattle.lock_transforms.specs.Entry.{Entry, replay}
-use Rattle.lock_transforms.specs.TentativeView.{TentativeView}
 use Rattle.lock_transforms.proofs.lemmas.Rooms.{more_room}
-use Rattle.lock_journal.specs.Book.{AreLastOrNone, IsSound}
-use Rattle.lock_journal.specs.Bounds.{IsFitKind}
-use Rattle.lock_journal.specs.HistoryView.{HistoryView}
 use Rattle.lock_journal.specs.declared.books.Book.TheInside.{Inside}
 
 -- the same entries, of which fewer are kept

@@ -4,12 +4,8 @@ use Rattle.std.specs.List.{All}
 use Rattle.std.proofs.lemmas.List.{append_assoc, drop-append-le, drop-drop, length-append, length-drop, take-append-drop, take-append-le}
 use Rattle.std.proofs.lemmas.List.Elements.{All-head, All-tail}
 use Rattle.std.proofs.Math.Seq.{take-length}
-use Rattle.resource_lock.specs.GraphView.{GraphView}
-use Rattle.resource_lock.specs.Opening.{opening_of}
-use Rattle.lock_transforms.specs.Entry.{Entry, replay, replay_from}
-use Rattle.lock_journal.specs.BookView.{BookView}
-use Rattle.lock_journal.specs.Giving.{AreInTurn, GivesTo, IsCutFrom, joined}
-use Rattle.lock_journal.specs.SegmentView.{SegmentView}
+use Rattle.lock_journal.specs.Names.{GraphView, opening_of, Entry, replay, replay_from, BookView, GivesTo, SegmentView}
+use Rattle.lock_journal.specs.Giving.{AreInTurn, IsCutFrom, joined}
 use Rattle.lock_journal.proofs.lemmas.Replays.{replay_from-append}
 
 -- what the history has from n entries on

@@ -2,23 +2,13 @@
 use Rattle.std.proofs.Common.{◌≡◌, ℕ, ◌+◌, ◌==◌, ◌⊎◌, Bool, true, false, cond, List, [], ◌∷◌, ◌++◌, None, Some, refl, sym, ap, ◌∙◌, subst, inl, inr, arith, append-nil}
 use Rattle.std.proofs.lemmas.Bool.{cases_eq, eq-eqb, ne_eqb}
 use Rattle.std.proofs.lemmas.List.Sums.{sum_by-append}
-use Rattle.resource_lock.specs.declared.changes.Change.{Change}
-use Rattle.resource_lock.specs.declared.ids.WorkerId.{WorkerId}
-use Rattle.resource_lock.specs.declared.marks.Mark.{Mark}
-use Rattle.resource_lock.specs.declared.marks.Mark.TheVariants.{Waiting, Queued, Running, Passed, Failed, Skipped}
-use Rattle.resource_lock.specs.declared.marks.MarkId.{MarkId}
-use Rattle.resource_lock.specs.declared.marks.MarkId.TheVariants.{Task as TaskOf, Unit as UnitOf}
-use Rattle.resource_lock.specs.GraphView.{GraphView, action_of}
-use Rattle.resource_lock.specs.Ranges.{IsItemOf, IsFetchOf, IsItem, first_item}
-use Rattle.resource_lock.specs.StateView.{StateView, mark_of}
+use Rattle.lock_journal.specs.Names.{Change, WorkerId, Mark, Waiting, Queued, Running, Passed, Failed, Skipped, MarkId, TaskOf, UnitOf, GraphView}
+use Rattle.lock_journal.specs.Names.{action_of, IsItemOf, IsFetchOf, first_item, StateView, mark_of, Kind, Start, Skip, Submit, Claim, Close, Block}
+use Rattle.lock_journal.specs.Names.{Unblock, End, closing_of, closings, Entry, end_mark, mark_from}
+use Rattle.resource_lock.specs.Ranges.{IsItem}
 use Rattle.item_actions.specs.declared.outcomes.Outcome.{Outcome}
 use Rattle.item_actions.specs.declared.outcomes.Outcome.TheVariants.{Number, Digest, NotThere, TooLong, Fault, NoMemory, Skipped as NotRun}
 use Rattle.item_actions.specs.Value.{passes}
-use Rattle.lock_transforms.specs.declared.entries.Kind.{Kind}
-use Rattle.lock_transforms.specs.declared.entries.Kind.TheVariants.{Start, Skip, Submit, Claim, Close, Block, Unblock, End}
-use Rattle.lock_journal.specs.Closings.{closing_of, closings}
-use Rattle.lock_transforms.specs.Entry.{Entry}
-use Rattle.lock_transforms.specs.Table.{end_mark, mark_from}
 use Rattle.lock_journal.specs.Runs.{finished_as, times, starts, skips, claims}
 use Rattle.lock_journal.proofs.Conditions.{all_passed}
 use Rattle.lock_journal.proofs.lemmas.Fitting.{RangesApart}

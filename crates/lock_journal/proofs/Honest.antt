@@ -2,20 +2,12 @@
 use Rattle.std.proofs.Common.{◌≡◌, ℕ, ◌==◌, ◌⊎◌, true, false, cond, List, [], ◌∷◌, ◌++◌, Option, Some, None, refl, sym, ap, ◌∙◌, subst, inl, inr}
 use Rattle.std.specs.List.{AllByRecursion}
 use Rattle.std.proofs.lemmas.Bool.{cases_Bool, eqb-true, eq-eqb}
-use Rattle.resource_lock.specs.declared.changes.Change.{Change}
-use Rattle.resource_lock.specs.declared.ids.WorkerId.{WorkerId}
+use Rattle.lock_journal.specs.Names.{Change, WorkerId, Closed, Kind, Close, Unblock, closing_of, where_finished, closings, Entry, answers}
+use Rattle.lock_journal.specs.Names.{IsHonestWorker, closed_of, closed_in, closed_by, GivesClosedOutcomes}
 use Rattle.item_actions.specs.declared.outcomes.Outcome.{Outcome}
 use Rattle.item_actions.specs.declared.outcomes.Outcome.TheVariants.{Fault, NoMemory}
 use Rattle.item_actions.specs.Value.{IsHonest}
-use Rattle.lock_transforms.specs.declared.entries.Closed.{Closed}
-use Rattle.lock_transforms.specs.declared.entries.Kind.{Kind}
-use Rattle.lock_transforms.specs.declared.entries.Kind.TheVariants.{Close, Unblock}
-use Rattle.lock_journal.specs.Closings.{closing_of, where_finished, closings}
-use Rattle.lock_transforms.specs.Entry.{Entry}
-use Rattle.lock_journal.specs.Answers.{answer_by, answers, IsHonestWorker}
-use Rattle.lock_journal.specs.Closings.{closed_of}
-use Rattle.lock_journal.specs.ClosedBy.{closed_in, closed_by}
-use Rattle.lock_journal.specs.Runs.{GivesClosedOutcomes}
+use Rattle.lock_journal.specs.Answers.{answer_by}
 use Rattle.lock_journal.proofs.Ranges.{each-append}
 
 -- each closed unit was closed honestly

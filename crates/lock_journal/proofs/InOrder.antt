@@ -2,12 +2,11 @@
 use Rattle.std.proofs.Common.{◌≡◌, ℕ, zero, suc, ◌+◌, ◌-◌, Bool, true, false, not, cond, ◌&&◌, List, [], ◌∷◌, ◌++◌, map, refl, sym, ap, ap₂, ◌∙◌, subst, arith}
 use Rattle.std.specs.List.{list_all, range_with_len, AllByRecursion}
 use Rattle.std.proofs.lemmas.List.Folds.{list_all-append}
-use Rattle.resource_lock.specs.GraphView.{GraphView, task_of}
-use Rattle.resource_lock.specs.Ranges.{IsIn, actions_of, units_of, IsActionOf, IsUnitOf}
+use Rattle.lock_journal.specs.Names.{GraphView, task_of, IsIn, actions_of, units_of, IsActionOf, IsUnitOf, action_passes, task_outcome, is_skipped}
+use Rattle.lock_journal.specs.Names.{earlier_pass, unit_outcome}
 use Rattle.item_actions.specs.declared.outcomes.Outcome.{Outcome}
 use Rattle.item_actions.specs.declared.outcomes.Outcome.TheVariants.{Skipped as NotRun}
 use Rattle.lock_journal.specs.InOrder.{outcomes_of_action, outcomes_of_actions, outcomes_of_task, units_of_actions}
-use Rattle.lock_journal.specs.Outcomes.{action_passes, task_outcome, is_skipped, earlier_pass, unit_outcome}
 use Rattle.lock_journal.proofs.Ranges.{each_unit}
 
 range_more : (first n : ℕ) → range_with_len first (suc n) ≡ range_with_len first n ++ (first + n) ∷ []

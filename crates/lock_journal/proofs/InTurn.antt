@@ -1,15 +1,7 @@
 -- The waiting actions of a task are skipped one after another.
 use Rattle.std.proofs.Common.{◌≡◌, ℕ, ◌+◌, ◌<◌, true, inl, inr, arith}
 use Rattle.std.specs.List.{range_with_len}
-use Rattle.resource_lock.specs.declared.ids.WorkerId.{WorkerId}
-use Rattle.resource_lock.specs.declared.marks.Mark.{Mark}
-use Rattle.resource_lock.specs.declared.marks.Mark.TheVariants.{Waiting}
-use Rattle.resource_lock.specs.declared.marks.MarkId.{MarkId}
-use Rattle.resource_lock.specs.declared.marks.MarkId.TheVariants.{Action as ActionOf}
-use Rattle.resource_lock.specs.Change.{make_all, can_all}
-use Rattle.resource_lock.specs.GraphView.{GraphView}
-use Rattle.resource_lock.specs.StateView.{StateView, mark_of}
-use Rattle.lock_transforms.specs.Table.{skipped_waiting}
+use Rattle.lock_journal.specs.Names.{WorkerId, Mark, Waiting, MarkId, ActionOf, make_all, can_all, GraphView, StateView, mark_of, skipped_waiting}
 use Rattle.lock_journal.proofs.Marks.{AllMoves, StaysOrMoves, stays_or_moves}
 use Rattle.lock_journal.proofs.Moves.{waiting_move, SkipsAction}
 use Rattle.lock_journal.proofs.Ranges.{each_in_range}

@@ -2,17 +2,9 @@
 use Rattle.std.proofs.Common.{◌≡◌, ℕ, ◌<◌, ◌⊎◌, Bool, true, false, List, [], ◌∷◌, get_or, refl, sym, ◌∙◌, subst, inl, inr}
 use Rattle.std.specs.List.{list_all, AllByRecursion}
 use Rattle.std.proofs.lemmas.Bool.{and_parts, and_cases}
-use Rattle.resource_lock.specs.declared.marks.Mark.{Mark}
-use Rattle.resource_lock.specs.declared.marks.Mark.TheVariants.{Waiting, Queued, Running, Passed, Failed, Skipped}
-use Rattle.resource_lock.specs.declared.marks.MarkId.{MarkId}
-use Rattle.resource_lock.specs.declared.marks.MarkId.TheVariants.{Task as TaskOf, Action as ActionOf, Unit as UnitOf}
-use Rattle.resource_lock.specs.GraphView.{GraphView, task_of}
-use Rattle.resource_lock.specs.Ranges.{actions_of, units_of, IsActionOf, IsUnitOf}
-use Rattle.resource_lock.specs.Shape.{BelongsTo}
-use Rattle.resource_lock.specs.StateView.{StateView, mark_of}
-use Rattle.lock_transforms.specs.Table.{has_passed}
-use Rattle.lock_journal.specs.Closing.{IsDone}
-use Rattle.lock_journal.specs.Marks.{IsEnded, AfterPassed}
+use Rattle.lock_journal.specs.Names.{Mark, Waiting, Queued, Running, Passed, Failed, Skipped, MarkId, TaskOf, ActionOf, UnitOf, GraphView, task_of}
+use Rattle.lock_journal.specs.Names.{actions_of, units_of, IsActionOf, IsUnitOf, BelongsTo, StateView, mark_of, has_passed, IsDone, IsEnded}
+use Rattle.lock_journal.specs.Names.{AfterPassed}
 use Rattle.lock_journal.proofs.Conditions.{HasFallen, AfterFallen, EarlierFailed, FetchDone, all_passed}
 use Rattle.lock_journal.proofs.Finished.{IsFinal}
 use Rattle.lock_journal.proofs.Ranges.{Has, has_unit, has_action, each_has, each_unit, each_action}

@@ -3,20 +3,13 @@ use Rattle.std.proofs.Common.{◌≡◌, ℕ, zero, suc, ◌-◌, ◌==◌, ◌�
 use Rattle.std.specs.List.{All, Any, AllByRecursion, list_any, list_all, range_with_len}
 use Rattle.std.proofs.lemmas.Bool.{and_parts, or_cases, eqb-true}
 use Rattle.std.proofs.lemmas.List.Elements.{All-from_recursion}
-use Rattle.resource_lock.specs.declared.ids.WorkerId.{WorkerId}
-use Rattle.resource_lock.specs.declared.marks.Mark.{Mark}
-use Rattle.resource_lock.specs.declared.marks.Mark.TheVariants.{Waiting, Queued, Running, Passed, Failed, Skipped}
-use Rattle.resource_lock.specs.declared.marks.MarkId.TheVariants.{Task as TaskOf, Action as ActionOf, Unit as UnitOf}
-use Rattle.resource_lock.specs.Change.{same_mark}
-use Rattle.resource_lock.specs.GraphView.{GraphView, task_of, action_of}
-use Rattle.resource_lock.specs.Ranges.{earlier_actions, task_with, actions_of, items_of, units_of, IsIn, IsActionOf, IsUnitOf}
-use Rattle.resource_lock.specs.StateView.{StateView, mark_of}
+use Rattle.lock_journal.specs.Names.{WorkerId, Mark, Waiting, Queued, Running, Passed, Failed, Skipped, TaskOf, ActionOf, UnitOf, same_mark}
+use Rattle.lock_journal.specs.Names.{GraphView, task_of, action_of, earlier_actions, task_with, actions_of, items_of, units_of, IsIn, IsActionOf}
+use Rattle.lock_journal.specs.Names.{IsUnitOf, StateView, mark_of, Kind, Start, Skip, Submit, Park, Resume, Claim, Close, Block, Unblock, End}
+use Rattle.lock_journal.specs.Names.{Acquire, HandBack, has_passed, has_ended, earlier_passed, fetch_closed, never_ran, works_on, units_passed}
+use Rattle.lock_journal.specs.Names.{condition, IsDone, IsEnded}
 use Rattle.resource_lock.proofs.lemmas.Undo.{same_mark_is}
-use Rattle.lock_transforms.specs.declared.entries.Kind.{Kind}
-use Rattle.lock_transforms.specs.declared.entries.Kind.TheVariants.{Start, Skip, Submit, Park, Resume, Claim, Close, Block, Unblock, End, Acquire, HandBack}
-use Rattle.lock_transforms.specs.Table.{has_passed, has_fallen, has_ended, earlier_passed, fetch_closed, never_ran, works_on, units_passed, condition}
-use Rattle.lock_journal.specs.Closing.{IsDone}
-use Rattle.lock_journal.specs.Marks.{IsEnded}
+use Rattle.lock_transforms.specs.Table.{has_fallen}
 use Rattle.lock_journal.proofs.Conditions.{HasFallen, EarlierPassed, EarlierFailed, FetchDone, IsThrough, MarkCondition}
 use Rattle.lock_journal.proofs.lemmas.Fitting.{RangesApart}
 use Rattle.lock_journal.proofs.Kept.{list_all-true}

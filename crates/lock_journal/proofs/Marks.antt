@@ -2,16 +2,9 @@
 use Rattle.std.proofs.Common.{◌≡◌, ℕ, ◌⊎◌, true, List, [], ◌∷◌, ◌++◌, get_or, set, Option, refl, sym, ap, ◌∙◌, subst, inl, inr, arith}
 use Rattle.std.proofs.lemmas.Bool.{and_parts}
 use Rattle.std.proofs.lemmas.List.{get_or-set_same}
-use Rattle.resource_lock.specs.declared.changes.Change.{Change}
-use Rattle.resource_lock.specs.declared.changes.Change.TheVariants.{Lock, Unlock, Take, Give, Move, Park as ParkLock, Unpark, Enter, Leave}
-use Rattle.resource_lock.specs.declared.ids.WorkerId.{WorkerId}
-use Rattle.resource_lock.specs.declared.marks.Mark.{Mark}
-use Rattle.resource_lock.specs.declared.marks.Mark.TheVariants.{Waiting}
-use Rattle.resource_lock.specs.declared.marks.MarkId.{MarkId}
-use Rattle.resource_lock.specs.declared.marks.MarkId.TheVariants.{Task as TaskOf, Action as ActionOf, Unit as UnitOf}
-use Rattle.resource_lock.specs.Change.{with_mark, can, make, make_all, can_all}
-use Rattle.resource_lock.specs.Shape.{SameShape}
-use Rattle.resource_lock.specs.StateView.{StateView, Holding, mark_of, IsMarkOf}
+use Rattle.lock_journal.specs.Names.{Change, Lock, Unlock, Take, Give, Move, ParkLock, Unpark, Enter, Leave, WorkerId, Mark, Waiting, MarkId, TaskOf}
+use Rattle.lock_journal.specs.Names.{ActionOf, UnitOf, can, make, make_all, can_all, SameShape, StateView, Holding, mark_of, IsMarkOf}
+use Rattle.resource_lock.specs.Change.{with_mark}
 use Rattle.resource_lock.proofs.lemmas.Lists.{get_or-set_cases}
 use Rattle.resource_lock.proofs.lemmas.Runs.{same_shape-make}
 use Rattle.resource_lock.proofs.lemmas.Undo.{same_mark_is}

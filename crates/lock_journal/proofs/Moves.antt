@@ -3,26 +3,14 @@ use Rattle.std.proofs.Common.{◌≡◌, ℕ, Bool, true, false, List, [], ◌�
 use Rattle.std.specs.Prelude.{nat_le}
 use Rattle.std.specs.List.{AllByRecursion}
 use Rattle.std.proofs.lemmas.Bool.{and_parts}
-use Rattle.resource_lock.specs.declared.changes.Change.{Change}
-use Rattle.resource_lock.specs.declared.changes.Change.TheVariants.{Take, Enter, Lock, Unlock, Give}
-use Rattle.resource_lock.specs.declared.graphs.Retention.{Retention}
-use Rattle.resource_lock.specs.declared.graphs.Retention.TheVariants.{Retain, Release, ReleaseAndReacquire}
-use Rattle.resource_lock.specs.declared.ids.LockId.{LockId}
-use Rattle.resource_lock.specs.declared.ids.WorkerId.{WorkerId}
-use Rattle.resource_lock.specs.declared.marks.Mark.{Mark}
-use Rattle.resource_lock.specs.declared.marks.Mark.TheVariants.{Waiting, Queued, Running, Passed, Skipped}
-use Rattle.resource_lock.specs.declared.marks.MarkId.{MarkId}
-use Rattle.resource_lock.specs.declared.marks.MarkId.TheVariants.{Task as TaskOf, Action as ActionOf, Unit as UnitOf}
-use Rattle.resource_lock.specs.Change.{same_mark}
-use Rattle.resource_lock.specs.GraphView.{GraphView, task_of, action_of}
-use Rattle.resource_lock.specs.Ranges.{actions_of, items_of, units_of, IsActionOf, IsItemOf, IsUnitOf, lock_with}
-use Rattle.resource_lock.specs.StateView.{StateView, holding_of, mark_of}
+use Rattle.lock_journal.specs.Names.{Change, Take, Enter, Lock, Unlock, Give, Retention, Retain, Release, ReleaseAndReacquire, LockId, WorkerId, Mark}
+use Rattle.lock_journal.specs.Names.{Waiting, Queued, Running, Passed, Skipped, MarkId, TaskOf, ActionOf, UnitOf, same_mark, GraphView, task_of}
+use Rattle.lock_journal.specs.Names.{action_of, actions_of, items_of, units_of, IsActionOf, IsItemOf, IsUnitOf, lock_with, StateView, holding_of}
+use Rattle.lock_journal.specs.Names.{mark_of, Kind, Start, Skip, Submit, Park, Resume, Claim, Close, Block, Unblock, End, Acquire, HandBack, IsListOf}
+use Rattle.lock_journal.specs.Names.{mark_from, end_mark, list_of, moved_units, skipped_action, skipped_actions, skipped_waiting, parked_locks}
+use Rattle.lock_journal.specs.Names.{taken_again, taken_up, on_park, on_resume, owned, IsEnded}
 use Rattle.resource_lock.proofs.lemmas.Undo.{same_mark_is}
-use Rattle.lock_transforms.specs.declared.entries.Kind.{Kind}
-use Rattle.lock_transforms.specs.declared.entries.Kind.TheVariants.{Start, Skip, Submit, Park, Resume, Claim, Close, Block, Unblock, End, Acquire, HandBack}
-use Rattle.lock_transforms.specs.Allowed.{IsListOf}
-use Rattle.lock_transforms.specs.Table.{mark_from, end_mark, list_of, moved_units, skipped_action, skipped_actions, skipped_waiting, parked_locks, taken_again, set_down, taken_up, on_park, on_resume, owned, acquires}
-use Rattle.lock_journal.specs.Marks.{IsEnded}
+use Rattle.lock_transforms.specs.Table.{set_down, acquires}
 use Rattle.lock_journal.proofs.Marks.{AllMoves, AllMoves-append}
 use Rattle.lock_journal.proofs.Ranges.{each_unit, each_item, each_action}
 

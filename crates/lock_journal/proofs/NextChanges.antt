@@ -1,8 +1,7 @@
 -- What a call of `next` gives of changes.
 use Rattle.std.proofs.Common.{◌≡◌, List, [], ◌∷◌, ◌++◌, Option, Some, None, append_assoc, append-nil, sym, ap, ◌∙◌, subst}
 use Rattle.std.specs.Iterator.{YieldsFirst}
-use Rattle.resource_lock.specs.declared.changes.Change.{Change}
-use Rattle.lock_journal.specs.Changes.{changes_left}
+use Rattle.lock_journal.specs.Names.{Change, changes_left}
 use Rattle.lock_journal.specs.declared.shown_changes.Changes.{Changes}
 
 -- the first of those that were left

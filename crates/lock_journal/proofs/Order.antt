@@ -2,22 +2,11 @@
 use Rattle.std.proofs.Common.{◌≡◌, ℕ, ◌==◌, ◌⊎◌, true, false, cond, List, [], ◌∷◌, Option, None, Some, refl, ap, ◌∙◌, subst, inl, inr, arith}
 use Rattle.std.specs.Prelude.{is_some, IfSome}
 use Rattle.std.proofs.lemmas.Bool.{cases_Bool, eqb-true}
-use Rattle.resource_lock.specs.declared.changes.Change.{Change}
-use Rattle.resource_lock.specs.declared.ids.WorkerId.{WorkerId}
-use Rattle.resource_lock.specs.declared.marks.Mark.{Mark}
-use Rattle.resource_lock.specs.declared.marks.Mark.TheVariants.{Waiting, Running, Passed, Failed, Skipped}
-use Rattle.resource_lock.specs.declared.marks.MarkId.TheVariants.{Task as TaskOf, Unit as UnitOf}
-use Rattle.resource_lock.specs.Opening.{opening_of}
-use Rattle.resource_lock.specs.GraphView.{GraphView}
-use Rattle.resource_lock.specs.StateView.{StateView, mark_of}
+use Rattle.lock_journal.specs.Names.{Change, WorkerId, Mark, Waiting, Running, Passed, Failed, Skipped, TaskOf, UnitOf, opening_of, GraphView}
+use Rattle.lock_journal.specs.Names.{StateView, mark_of, Kind, Start, Close, Unblock, Finishes, Allowed, lawful_from, Lawful, closing_of, closings}
+use Rattle.lock_journal.specs.Names.{where_finished, Entry, replay, IsEnded, AfterPassed, HasEnded, IsOrderly}
 use Rattle.item_actions.specs.declared.outcomes.Outcome.{Outcome}
-use Rattle.lock_transforms.specs.declared.entries.Kind.{Kind}
-use Rattle.lock_transforms.specs.declared.entries.Kind.TheVariants.{Start, Close, Unblock}
-use Rattle.lock_transforms.specs.Allowed.{Finishes, Allowed, lawful_from, Lawful}
-use Rattle.lock_journal.specs.Closings.{closing_of, closings, where_finished}
-use Rattle.lock_transforms.specs.Entry.{Entry, replay}
-use Rattle.lock_journal.specs.Marks.{IsEnded, AfterPassed, HasEnded}
-use Rattle.lock_journal.specs.Runs.{times, starts, skips, OnceStartedOrSkipped, NeverOrOnceClosed, StandsIn, IsOrderly}
+use Rattle.lock_journal.specs.Runs.{times, starts, skips, OnceStartedOrSkipped, NeverOrOnceClosed, StandsIn}
 use Rattle.lock_journal.proofs.Conditions.{MarkCondition}
 use Rattle.lock_journal.proofs.lemmas.Fitting.{RangesApart}
 use Rattle.lock_journal.proofs.lemmas.Replays.{lawful_from-append}

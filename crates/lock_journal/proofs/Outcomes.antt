@@ -3,8 +3,7 @@ use Rattle.std.proofs.Common.{◌≡◌, ℕ, List, [], ◌∷◌, ◌++◌, ref
 use Rattle.std.proofs.lemmas.List.{append-nil}
 use Rattle.item_actions.specs.declared.outcomes.Outcome.{Outcome}
 use Rattle.item_actions.specs.declared.outcomes.Outcome.TheVariants as outcomes
-use Rattle.lock_transforms.specs.Entry.{Entry}
-use Rattle.lock_journal.specs.Closings.{closing_of, where_finished, closings, last_or, outcome_in}
+use Rattle.lock_journal.specs.Names.{Entry, closing_of, where_finished, closings, last_or, outcome_in}
 
 pub last_or-append : (o : Outcome) (ps qs : List Outcome) → last_or o (ps ++ qs) ≡ last_or (last_or o ps) qs
 last_or-append o [] qs = refl

@@ -8,22 +8,16 @@ use Rattle.std.proofs.lemmas.List.{get_or_append_left, replicate-append-replicat
 use Rattle.std.proofs.lemmas.List.Folds.{list_any-append}
 use Rattle.std.proofs.Math.Seq.{get_or-append_seam}
 use Rattle.resource_lock.proofs.lemmas.Runs.{same_shape-make, same_shape-make_all}
-use Rattle.resource_lock.specs.Change.{can, can_all, make, make_all, same_mark, with_owner, NamesOnly}
-use Rattle.resource_lock.specs.GraphView.{GraphView, action_of, task_of}
-use Rattle.resource_lock.specs.Opening.{opening_of}
-use Rattle.resource_lock.specs.Ranges.{actions_of, is_item}
-use Rattle.resource_lock.specs.StateView.{StateView, all_owner, has_parked, holding_of, is_all, is_idle, is_other, is_owner, is_parked, kept_from, mark_of, owner_of, owns_any, runs_any, runs_unit}
-use Rattle.resource_lock.specs.declared.changes.Change.{Change}
-use Rattle.resource_lock.specs.declared.changes.Change.TheVariants.{Lock, Unlock, Take, Give, Move, Park as ParkLock, Unpark, Enter, Leave}
-use Rattle.resource_lock.specs.declared.ids.LockId.{LockId}
-use Rattle.resource_lock.specs.declared.ids.WorkerId.{WorkerId}
-use Rattle.resource_lock.specs.declared.marks.Mark.TheVariants.{Waiting, Queued, Running, Skipped}
-use Rattle.resource_lock.specs.declared.marks.MarkId.TheVariants.{Task as TaskOf, Action as ActionOf, Unit as UnitOf}
-use Rattle.lock_transforms.specs.Allowed.{Allowed, Finishes, IsKindOf, IsListOf, Lawful, lawful_from}
-use Rattle.lock_transforms.specs.Entry.{Entry, changed, effect}
-use Rattle.lock_transforms.specs.Table.{condition, end_mark, has_fallen, has_passed, list_of, owned, owned_from, parked_locks, skipped_action, skipped_actions, skipped_waiting}
-use Rattle.lock_transforms.specs.declared.entries.Kind.{Kind}
-use Rattle.lock_transforms.specs.declared.entries.Kind.TheVariants.{Start, Skip, Submit, Park, Resume, Claim, Close, Block, Unblock, End, Acquire, HandBack}
+use Rattle.lock_journal.specs.Names.{can, can_all, make, make_all, same_mark, NamesOnly, GraphView, action_of, task_of, opening_of, actions_of}
+use Rattle.lock_journal.specs.Names.{is_item, StateView, has_parked, holding_of, is_idle, is_owner, is_parked, kept_from, mark_of, owner_of, owns_any}
+use Rattle.lock_journal.specs.Names.{runs_any, runs_unit, Change, Lock, Unlock, Take, Give, Move, ParkLock, Unpark, Enter, Leave, LockId, WorkerId}
+use Rattle.lock_journal.specs.Names.{Waiting, Queued, Running, Skipped, TaskOf, ActionOf, UnitOf, Allowed, Finishes, IsKindOf, IsListOf, Lawful}
+use Rattle.lock_journal.specs.Names.{lawful_from, Entry, changed, effect, condition, end_mark, has_passed, list_of, owned, owned_from, parked_locks}
+use Rattle.lock_journal.specs.Names.{skipped_action, skipped_actions, skipped_waiting, Kind, Start, Skip, Submit, Park, Resume, Claim, Close, Block}
+use Rattle.lock_journal.specs.Names.{Unblock, End, Acquire, HandBack}
+use Rattle.resource_lock.specs.Change.{with_owner}
+use Rattle.resource_lock.specs.StateView.{all_owner, is_all, is_other}
+use Rattle.lock_transforms.specs.Table.{has_fallen}
 use Rattle.lock_journal.specs.PlainPlans.{Finished, IsBelow, NameLocksBelow, WasAllowed, WasLawful, could, could_all, was_lawful_from, with_all}
 
 abbrev lock_at : ℕ → LockId

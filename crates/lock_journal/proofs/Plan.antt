@@ -3,22 +3,13 @@ use Rattle.std.proofs.Common.{◌≡◌, ℕ, zero, suc, ◌-◌, ◌<◌, ◌�
 use Rattle.std.specs.List.{Any, list_all, AllByRecursion, range_with_len}
 use Rattle.std.proofs.lemmas.Bool.{and_left, and_right, and_from}
 use Rattle.std.proofs.lemmas.List.Elements.{recursion_from_All}
-use Rattle.resource_lock.specs.declared.marks.Mark.{Mark}
-use Rattle.resource_lock.specs.declared.marks.Mark.TheVariants.{Waiting, Passed, Failed, Skipped}
-use Rattle.resource_lock.specs.declared.marks.MarkId.TheVariants.{Task as TaskOf, Unit as UnitOf}
-use Rattle.resource_lock.specs.GraphView.{GraphView, task_of}
-use Rattle.resource_lock.specs.Ranges.{actions_of, units_of, IsActionOf, IsUnitOf}
-use Rattle.resource_lock.specs.StateView.{StateView, mark_of}
+use Rattle.lock_journal.specs.Names.{Mark, Waiting, Passed, Failed, Skipped, TaskOf, UnitOf, GraphView, task_of, actions_of, units_of, IsActionOf}
+use Rattle.lock_journal.specs.Names.{IsUnitOf, StateView, mark_of, Lawful, closings, last_or, outcome_in, Entry, replay, has_passed, IsEnded}
+use Rattle.lock_journal.specs.Names.{HasEnded, action_passes, task_passes, task_outcome, earlier_pass, is_skipped, unit_outcome, AreRanks}
+use Rattle.lock_journal.specs.Names.{GivesClosedOutcomes, ComesTo}
 use Rattle.item_actions.specs.declared.outcomes.Outcome.{Outcome}
 use Rattle.item_actions.specs.declared.outcomes.Outcome.TheVariants.{Skipped as NotRun}
 use Rattle.item_actions.specs.Value.{passes}
-use Rattle.lock_transforms.specs.Allowed.{Lawful}
-use Rattle.lock_journal.specs.Closings.{closings, last_or, outcome_in}
-use Rattle.lock_transforms.specs.Entry.{Entry, replay}
-use Rattle.lock_transforms.specs.Table.{has_passed}
-use Rattle.lock_journal.specs.Marks.{IsEnded, HasEnded}
-use Rattle.lock_journal.specs.Outcomes.{action_passes, task_passes, task_outcome, earlier_pass, is_skipped, unit_outcome, AreRanks}
-use Rattle.lock_journal.specs.Runs.{GivesClosedOutcomes, ComesTo}
 use Rattle.lock_journal.proofs.Conditions.{HasFallen, EarlierFailed}
 use Rattle.lock_journal.proofs.lemmas.Fitting.{RangesApart}
 use Rattle.lock_journal.proofs.History.{IsRecorded, ClosedAs}

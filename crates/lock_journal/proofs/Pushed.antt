@@ -3,15 +3,12 @@ use Rattle.std.specs.Prelude.{◌==◌, map}
 use Rattle.std.proofs.Common.{◌≡◌, ℕ, ◌≤◌, ◌<◌, ◌-◌, Bool, true, false, length, take, drop, List, [], ◌∷◌, ◌++◌, cond, Some, None, refl, sym, ◌∙◌, ap, subst, arith}
 use Rattle.std.specs.List.{slice_range}
 use Rattle.std.proofs.lemmas.List.{drop_at, take_all, take-append-le, drop-append-le, length-drop, length-append, get_or_append_left}
-use Rattle.resource_lock.specs.declared.changes.Change.{Change}
+use Rattle.lock_journal.specs.Names.{Change, entry, Closed, Close, Unblock, closing_of, where_finished, closings, last_or, change_of_worker}
+use Rattle.lock_journal.specs.Names.{AreStored, IsLastNumber, closing_at, closings_until, end_before, entries_from, entry_from, kind_from, place_by}
+use Rattle.lock_journal.specs.Names.{place_in}
 use Rattle.item_actions.specs.declared.outcomes.Outcome.{Outcome}
 use Rattle.item_actions.specs.declared.outcomes.Outcome.TheVariants as outcomes
-use Rattle.lock_transforms.specs.Entry.{entry}
-use Rattle.lock_transforms.specs.declared.entries.Closed.{Closed}
-use Rattle.lock_transforms.specs.declared.entries.Kind.TheVariants.{Close, Unblock}
-use Rattle.lock_journal.specs.Closings.{closing_of, where_finished, closings, last_or}
-use Rattle.lock_journal.specs.StoredChange.{change_of_worker}
-use Rattle.lock_journal.specs.StoredEntry.{AreStored, IsLastNumber, IsNumberOf, KeepEarlier, closing_at, closings_before, closings_until, end_before, entries_from, entry_from, kind_from, place_after, place_by, place_in}
+use Rattle.lock_journal.specs.StoredEntry.{IsNumberOf, KeepEarlier, closings_before, place_after}
 use Rattle.lock_journal.specs.declared.stored_changes.StoredChange.{StoredChange}
 use Rattle.lock_journal.specs.declared.stored_entries.StoredEntry.{StoredEntry}
 use Rattle.lock_journal.specs.declared.stored_entries.StoredKind.{StoredKind}

@@ -2,25 +2,13 @@
 use Rattle.std.proofs.Common.{◌≡◌, ℕ, ◌<◌, true, List, [], ◌∷◌, Option, None, Some, inl, inr, sym, ◌∙◌}
 use Rattle.std.specs.Prelude.{IfSome}
 use Rattle.std.proofs.lemmas.Bool.{le-leb}
-use Rattle.resource_lock.specs.declared.changes.Change.{Change}
-use Rattle.resource_lock.specs.declared.ids.WorkerId.{WorkerId}
-use Rattle.resource_lock.specs.declared.marks.Mark.{Mark}
-use Rattle.resource_lock.specs.declared.marks.Mark.TheVariants.{Queued}
-use Rattle.resource_lock.specs.declared.marks.MarkId.TheVariants.{Unit as UnitOf}
-use Rattle.resource_lock.specs.Change.{make_all}
-use Rattle.resource_lock.specs.Fits.{Fits}
-use Rattle.resource_lock.specs.GraphView.{GraphView, action_of}
-use Rattle.resource_lock.specs.Opening.{opening_of}
-use Rattle.resource_lock.specs.Ranges.{IsItem, first_item, is_item}
-use Rattle.resource_lock.specs.StateView.{StateView, mark_of}
+use Rattle.lock_journal.specs.Names.{Change, WorkerId, Mark, Queued, UnitOf, make_all, Fits, GraphView, action_of, opening_of, first_item, is_item}
+use Rattle.lock_journal.specs.Names.{StateView, mark_of, Kind, Skip, Submit, Claim, Close, Block, Unblock, End, Finishes, Lawful, lawful_from, Entry}
+use Rattle.lock_journal.specs.Names.{changed, effect, replay, replay_from, mark_from}
+use Rattle.resource_lock.specs.Ranges.{IsItem}
 use Rattle.resource_lock.proofs.lemmas.Units.{is_item_from}
 use Rattle.item_actions.specs.declared.outcomes.Outcome.{Outcome}
 use Rattle.item_actions.specs.declared.outcomes.Outcome.TheVariants.{Number, Digest}
-use Rattle.lock_transforms.specs.declared.entries.Kind.{Kind}
-use Rattle.lock_transforms.specs.declared.entries.Kind.TheVariants.{Skip, Submit, Claim, Close, Block, Unblock, End}
-use Rattle.lock_transforms.specs.Allowed.{Finishes, Lawful, lawful_from}
-use Rattle.lock_transforms.specs.Entry.{Entry, changed, effect, replay, replay_from}
-use Rattle.lock_transforms.specs.Table.{mark_from}
 use Rattle.lock_journal.proofs.lemmas.Fitting.{apart_of}
 use Rattle.lock_journal.proofs.Marks.{StaysOrMoves, stays_or_moves}
 use Rattle.lock_journal.proofs.Moves.{MayMove, list_moves}

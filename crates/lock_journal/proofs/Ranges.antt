@@ -2,9 +2,8 @@
 use Rattle.std.proofs.Common.{◌≡◌, ℕ, zero, suc, ◌+◌, ◌⊎◌, Bool, true, false, List, [], ◌∷◌, ◌++◌, refl, sym, subst, inl, inr, arith}
 use Rattle.std.specs.List.{AllByRecursion, range_with_len}
 use Rattle.std.proofs.lemmas.Bool.{cases_eq}
-use Rattle.resource_lock.specs.declared.graphs.GraphAction.{GraphAction}
-use Rattle.resource_lock.specs.GraphView.{GraphView, task_of, action_of}
-use Rattle.resource_lock.specs.Ranges.{IsIn, first_item, actions_of, items_of, fetches, units_of, IsActionOf, IsItemOf, IsUnitOf}
+use Rattle.lock_journal.specs.Names.{GraphAction, GraphView, task_of, action_of, IsIn, first_item, actions_of, items_of, fetches, units_of}
+use Rattle.lock_journal.specs.Names.{IsActionOf, IsItemOf, IsUnitOf}
 
 -- the number stands in the list
 abbrev pub Has : ℕ → List ℕ → Type 0

@@ -3,17 +3,9 @@ use Rattle.std.proofs.Common.{◌≡◌, ℕ, ◌<◌, ◌≤◌, ◌⊎◌, Lis
 use Rattle.std.specs.Prelude.{replicate, IfSome}
 use Rattle.std.proofs.lemmas.Bool.{cases_lt}
 use Rattle.std.proofs.lemmas.List.{get_or-replicate, length-replicate, get_or_past}
-use Rattle.resource_lock.specs.declared.changes.Change.{Change}
-use Rattle.resource_lock.specs.declared.ids.WorkerId.{WorkerId}
-use Rattle.resource_lock.specs.declared.marks.Mark.TheVariants.{Waiting}
-use Rattle.resource_lock.specs.Change.{make_all}
-use Rattle.resource_lock.specs.Opening.{opening_of}
-use Rattle.resource_lock.specs.GraphView.{GraphView}
-use Rattle.resource_lock.specs.StateView.{StateView}
+use Rattle.lock_journal.specs.Names.{Change, WorkerId, Waiting, make_all, opening_of, GraphView, StateView, Kind, IsKindOf, Finishes, Allowed}
+use Rattle.lock_journal.specs.Names.{lawful_from, Lawful, Entry, changed, effect, replay_from, replay}
 use Rattle.resource_lock.proofs.lemmas.Runs.{belongs_opening, same_shape-make_all}
-use Rattle.lock_transforms.specs.declared.entries.Kind.{Kind}
-use Rattle.lock_transforms.specs.Allowed.{IsKindOf, Finishes, Allowed, lawful_from, Lawful}
-use Rattle.lock_transforms.specs.Entry.{Entry, changed, effect, replay_from, replay}
 use Rattle.lock_journal.proofs.Finished.{final_by, has_moved}
 use Rattle.lock_journal.proofs.lemmas.Fitting.{RangesApart}
 use Rattle.lock_journal.proofs.History.{IsRecorded, ClosedAs, times_begun, times_skipped, recorded_finished, recorded_failed}

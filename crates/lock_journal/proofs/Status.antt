@@ -1,13 +1,8 @@
 -- All tasks are Passed in the state exactly where they are by the plan.
 use Rattle.std.proofs.Common.{◌≡◌, ℕ, ◌+◌, ◌<◌, suc, length, Bool, List, [], ◌∷◌, get_or, refl, sym, ap, ap₂, ◌∙◌, arith, ◌&&◌}
 use Rattle.std.specs.List.{list_all, range_with_len}
-use Rattle.resource_lock.specs.declared.marks.Mark.TheVariants.{Waiting}
-use Rattle.resource_lock.specs.GraphView.{GraphView}
+use Rattle.lock_journal.specs.Names.{Waiting, GraphView, Entry, replay, has_passed, task_outcome, ComesTo}
 use Rattle.item_actions.specs.declared.outcomes.Outcome.{Outcome}
-use Rattle.lock_transforms.specs.Entry.{Entry, replay}
-use Rattle.lock_transforms.specs.Table.{has_passed}
-use Rattle.lock_journal.specs.Outcomes.{task_outcome}
-use Rattle.lock_journal.specs.Runs.{ComesTo}
 
 -- a test of a list's members is the test of their places
 all_places : {X : Type 0} (test : X → Bool) (at : ℕ → Bool) (d : X) (n : ℕ) (xs : List X) → ((i : ℕ) → i < length xs → test (get_or xs i d) ≡ at (n + i)) → list_all test xs ≡ list_all at (range_with_len n (length xs))

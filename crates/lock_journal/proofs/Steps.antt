@@ -1,22 +1,11 @@
 -- A finished entry keeps what holds of every state, kind by kind.
 use Rattle.std.proofs.Common.{◌≡◌, ℕ, Bool, true, false, cond, refl, sym, ap, ◌∙◌, subst, inl, inr, Some, None}
-use Rattle.resource_lock.specs.declared.ids.WorkerId.{WorkerId}
-use Rattle.resource_lock.specs.declared.marks.Mark.{Mark}
-use Rattle.resource_lock.specs.declared.marks.Mark.TheVariants.{Waiting, Queued, Running, Passed, Failed, Skipped}
-use Rattle.resource_lock.specs.declared.marks.MarkId.{MarkId}
-use Rattle.resource_lock.specs.declared.marks.MarkId.TheVariants.{Task as TaskOf, Action as ActionOf, Unit as UnitOf}
-use Rattle.resource_lock.specs.GraphView.{GraphView, action_of}
-use Rattle.resource_lock.specs.Ranges.{IsActionOf, IsFetchOf, IsUnitOf}
-use Rattle.resource_lock.specs.Shape.{SameShape}
-use Rattle.resource_lock.specs.StateView.{StateView, mark_of}
+use Rattle.lock_journal.specs.Names.{WorkerId, Mark, Waiting, Queued, Running, Passed, Failed, Skipped, MarkId, TaskOf, ActionOf, UnitOf, GraphView}
+use Rattle.lock_journal.specs.Names.{action_of, IsActionOf, IsFetchOf, IsUnitOf, SameShape, StateView, mark_of, Kind, Start, Skip, Submit, Park}
+use Rattle.lock_journal.specs.Names.{Resume, Claim, Close, Block, Unblock, End, end_mark, mark_from, IsDone, IsEnded, AfterPassed}
 use Rattle.resource_lock.proofs.lemmas.Runs.{belongs_along}
 use Rattle.item_actions.specs.declared.outcomes.Outcome.{Outcome}
 use Rattle.item_actions.specs.declared.outcomes.Outcome.TheVariants.{Number, Digest, NotThere, TooLong, Fault, NoMemory, Skipped as NotRun}
-use Rattle.lock_transforms.specs.declared.entries.Kind.{Kind}
-use Rattle.lock_transforms.specs.declared.entries.Kind.TheVariants.{Start, Skip, Submit, Park, Resume, Claim, Close, Block, Unblock, End}
-use Rattle.lock_transforms.specs.Table.{end_mark, mark_from}
-use Rattle.lock_journal.specs.Closing.{IsDone}
-use Rattle.lock_journal.specs.Marks.{IsEnded, AfterPassed}
 use Rattle.lock_journal.proofs.Conditions.{HasFallen, EarlierPassed, EarlierFailed, FetchDone, IsThrough, MarkCondition, all_passed}
 use Rattle.lock_journal.proofs.Finished.{IsFinal, HasMoved}
 use Rattle.lock_journal.proofs.lemmas.Fitting.{RangesApart}

@@ -4,13 +4,10 @@ use Rattle.std.specs.Prelude.{map, slice_get}
 use Rattle.std.specs.List.{slice_range, slice_index_or}
 use Rattle.std.proofs.lemmas.Option.{slice_get_read, slice_get_within}
 use Rattle.std.proofs.lemmas.List.{drop_all, take_all, length-drop}
-use Rattle.resource_lock.specs.declared.changes.Change.{Change}
-use Rattle.lock_journal.specs.StoredEntry.{AreStored, IsLastNumber, IsNumberOf, closings_before, closings_until, end_before, entries_from, entry_from}
-use Rattle.lock_journal.specs.Segment.{segment_view}
-use Rattle.lock_journal.specs.SegmentView.{SegmentView}
-use Rattle.lock_journal.specs.LastChanges.{last_changes, made_by, made_where_finished}
-use Rattle.lock_transforms.specs.declared.entries.Closed.{Closed}
-use Rattle.lock_journal.specs.StoredChange.{change_of_worker}
+use Rattle.lock_journal.specs.Names.{Change, AreStored, IsLastNumber, closings_until, end_before, entries_from, entry_from, segment_view, SegmentView}
+use Rattle.lock_journal.specs.Names.{last_changes, made_by, Closed, change_of_worker}
+use Rattle.lock_journal.specs.StoredEntry.{IsNumberOf, closings_before}
+use Rattle.lock_journal.specs.LastChanges.{made_where_finished}
 use Rattle.lock_journal.specs.declared.stored_changes.StoredChange.{StoredChange}
 use Rattle.lock_journal.specs.declared.stored_entries.StoredEntry.{StoredEntry}
 use Rattle.lock_journal.specs.declared.stored_entries.StoredKind.{StoredKind}

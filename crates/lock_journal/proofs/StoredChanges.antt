@@ -3,17 +3,13 @@ use Rattle.std.specs.Prelude.{map}
 use Rattle.std.specs.List.{AllByRecursion}
 use Rattle.std.proofs.Common.{◌≡◌, true, List, [], ◌∷◌, refl, sym, ap, ap₂}
 use Rattle.std.proofs.lemmas.Bool.{and_parts, eqb-true}
-use Rattle.resource_lock.specs.Change.{can, can_all, make, names_only}
-use Rattle.resource_lock.specs.StateView.{StateView}
-use Rattle.resource_lock.specs.declared.changes.Change.{Change}
-use Rattle.resource_lock.specs.declared.changes.Change.TheVariants.{Lock, Unlock, Take, Give, Move, Park, Unpark, Enter, Leave}
-use Rattle.resource_lock.specs.declared.ids.WorkerId.{WorkerId}
-use Rattle.resource_lock.specs.declared.marks.Mark.{Mark}
-use Rattle.resource_lock.specs.declared.marks.Mark.TheVariants.{Waiting, Queued, Running, Passed, Failed, Skipped}
-use Rattle.resource_lock.specs.declared.marks.MarkId.TheVariants.{Task as TaskOf, Action as ActionOf, Unit as UnitOf}
+use Rattle.lock_journal.specs.Names.{can, can_all, make, names_only, StateView, Change, Lock, Unlock, Take, Give, Move, Unpark, Enter, Leave}
+use Rattle.lock_journal.specs.Names.{WorkerId, Mark, Waiting, Queued, Running, Passed, Failed, Skipped, TaskOf, ActionOf, UnitOf, IsOwnChange}
+use Rattle.lock_journal.specs.Names.{change_of_worker, stored_change}
+use Rattle.resource_lock.specs.declared.changes.Change.TheVariants.{Park}
 use Rattle.resource_lock.proofs.lemmas.Counted.{moves}
 use Rattle.resource_lock.proofs.lemmas.Undo.{same_worker}
-use Rattle.lock_journal.specs.StoredChange.{IsOwnChange, change_of_worker, mark_of_worker, stored_change, stored_mark}
+use Rattle.lock_journal.specs.StoredChange.{mark_of_worker, stored_mark}
 
 mark_back : (w : WorkerId) (m : Mark) → names_only m w ≡ true → mark_of_worker w (stored_mark m) ≡ m
 mark_back w Waiting own = refl

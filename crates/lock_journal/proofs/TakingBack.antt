@@ -8,30 +8,16 @@ use Rattle.std.proofs.lemmas.List.Elements.{All-take}
 use Rattle.std.proofs.lemmas.Option.{slice_get_within, slice_get-get_or}
 use Rattle.resource_lock.proofs.lemmas.Begins.{good_opening}
 use Rattle.resource_lock.proofs.lemmas.Runs.{belongs_opening, worker_from}
-use Rattle.resource_lock.specs.Fits.{Fits}
-use Rattle.resource_lock.specs.Good.{Good}
-use Rattle.resource_lock.specs.GraphView.{GraphView}
+use Rattle.lock_journal.specs.Names.{Fits, Good, GraphView, opening_of, BelongsTo, StateView, Change, WorkerId, Allowed, Finishes, IsKindOf, Lawful}
+use Rattle.lock_journal.specs.Names.{lawful_from, Entry, changed, replay, IsRoomFor, TentativeView, all_recalled, Kind, Start, Skip, Submit, Park}
+use Rattle.lock_journal.specs.Names.{Resume, Claim, Close, Block, Unblock, End, Acquire, HandBack, IsSound, IsFitKind, changes_left, ClosesWithin}
+use Rattle.lock_journal.specs.Names.{HistoryView}
 use Rattle.resource_lock.specs.Leading.{CameFrom}
-use Rattle.resource_lock.specs.Opening.{opening_of}
-use Rattle.resource_lock.specs.Shape.{BelongsTo}
-use Rattle.resource_lock.specs.StateView.{StateView}
-use Rattle.resource_lock.specs.declared.changes.Change.{Change}
-use Rattle.resource_lock.specs.declared.ids.WorkerId.{WorkerId}
 use Rattle.ready_work.specs.ReadyWork.{Follows, IsIndexOf, Lead}
 use Rattle.ready_work.specs.declared.ready_works.ReadyWork.{ReadyWork}
-use Rattle.lock_transforms.specs.Allowed.{Allowed, Finishes, IsKindOf, Lawful, lawful_from}
-use Rattle.lock_transforms.specs.Entry.{Entry, changed, replay}
-use Rattle.lock_transforms.specs.MostChanges.{IsRoomFor}
-use Rattle.lock_transforms.specs.TentativeView.{TentativeView, all_recalled, settled, with_state}
-use Rattle.lock_transforms.specs.declared.entries.Kind.{Kind}
-use Rattle.lock_transforms.specs.declared.entries.Kind.TheVariants.{Start, Skip, Submit, Park, Resume, Claim, Close, Block, Unblock, End, Acquire, HandBack}
-use Rattle.lock_journal.specs.Book.{IsSound}
+use Rattle.lock_transforms.specs.TentativeView.{settled, with_state}
 use Rattle.lock_transforms.proofs.FewAllowed.{few_finished}
 use Rattle.lock_transforms.proofs.lemmas.Rooms.{more_room}
-use Rattle.lock_journal.specs.Bounds.{IsFitKind}
-use Rattle.lock_journal.specs.Changes.{changes_left}
-use Rattle.lock_journal.specs.Closings.{ClosesWithin}
-use Rattle.lock_journal.specs.HistoryView.{HistoryView}
 use Rattle.lock_journal.specs.Shown.{entry_shown}
 use Rattle.lock_journal.specs.declared.books.Book.TheInside.{Inside}
 use Rattle.lock_journal.specs.declared.shown_entries.Shown.{Shown}

@@ -3,21 +3,10 @@ use Rattle.std.proofs.Common.{Some, ◌≡◌, ℕ, ◌<◌, ◌≤◌, zero, su
 use Rattle.std.specs.List.{All, AllByRecursion}
 use Rattle.std.proofs.lemmas.Bool.{and_parts}
 use Rattle.std.proofs.lemmas.List.Elements.{All-nil, All-cons}
-use Rattle.resource_lock.specs.declared.graphs.Retention.{Retention}
-use Rattle.resource_lock.specs.declared.graphs.Retention.TheVariants.{Retain, Release, ReleaseAndReacquire}
-use Rattle.resource_lock.specs.declared.ids.WorkerId.{WorkerId}
-use Rattle.resource_lock.specs.declared.limits.TheConstants.{MAX_ACTIONS_PER_TASK, MAX_AFTER, MAX_UNITS}
-use Rattle.resource_lock.specs.declared.marks.Mark.TheVariants.{Passed, Failed, Skipped}
-use Rattle.resource_lock.specs.Change.{can_all, NamesOnly}
-use Rattle.resource_lock.specs.Fits.{Fits}
-use Rattle.resource_lock.specs.GraphView.{GraphView, action_of}
-use Rattle.resource_lock.specs.Ranges.{IsActionOf}
-use Rattle.resource_lock.specs.StateView.{StateView}
+use Rattle.lock_journal.specs.Names.{Retention, Retain, Release, ReleaseAndReacquire, WorkerId, MAX_ACTIONS_PER_TASK, MAX_AFTER, MAX_UNITS, Passed}
+use Rattle.lock_journal.specs.Names.{Failed, Skipped, can_all, NamesOnly, Fits, GraphView, action_of, IsActionOf, StateView, Kind, Allowed, IsKindOf}
+use Rattle.lock_journal.specs.Names.{IsListOf, Lawful, entry, condition, list_of, is_enabled}
 use Rattle.item_actions.specs.declared.outcomes.Outcome.TheVariants.{Number, NotThere, Skipped as NotRun}
-use Rattle.lock_transforms.specs.declared.entries.Kind.{Kind}
-use Rattle.lock_transforms.specs.Allowed.{Allowed, IsKindOf, IsListOf, Lawful}
-use Rattle.lock_transforms.specs.Entry.{entry}
-use Rattle.lock_transforms.specs.Table.{condition, list_of, is_enabled}
 use Rattle.lock_journal.specs.WorkedRows.{one_task, two_tasks, no_tasks, first_run, run_that_reacquires, run_that_releases, run_that_fetches, run_that_fails, locks_by_turns, start_too_early, IsWorkedRun}
 use Rattle.lock_journal.specs.WorkedRows.{all_beside_another, all_by_turns, another_beside_all, first_run_of_all, one_task_of_all, two_projects}
 

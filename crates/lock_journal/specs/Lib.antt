@@ -27,3 +27,4 @@ pub mod WorkedRows
 pub mod ByNumber
 pub mod OwnChanges
 pub mod PlainPlans
+pub mod Names

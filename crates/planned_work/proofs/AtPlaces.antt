@@ -2,25 +2,13 @@
 use Rattle.std.proofs.Common.{◌≡◌, ℕ, ◌<◌, ◌⊎◌, Bool, true, false, not, ◌==◌, List, [], ◌∷◌, length, Option, None, Some, inl, inr, refl, sym, ap, ◌∙◌, subst, arith}
 use Rattle.std.specs.List.{list_any}
 use Rattle.std.proofs.lemmas.Bool.{eq-eqb, false≢true, false_from_ne_true, ne_eqb, or_parts}
-use Rattle.resource_lock.specs.Change.{stands_last}
-use Rattle.resource_lock.specs.Fits.{Fits}
-use Rattle.resource_lock.specs.GraphView.{GraphView, action_of, task_of}
-use Rattle.resource_lock.specs.Ranges.{IsActionOf, lock_with, task_with}
-use Rattle.resource_lock.specs.StateView.{Holding, StateView, holding_of, is_parked, mark_of, owns, runs_unit, stands_in}
-use Rattle.resource_lock.specs.declared.graphs.Retention.{Retention}
-use Rattle.resource_lock.specs.declared.graphs.Retention.TheVariants.{Retain, Release, ReleaseAndReacquire}
-use Rattle.resource_lock.specs.declared.ids.LockId.{LockId}
-use Rattle.resource_lock.specs.declared.marks.Mark.TheVariants.{Running}
-use Rattle.resource_lock.specs.declared.marks.MarkId.{MarkId}
-use Rattle.resource_lock.specs.declared.marks.MarkId.TheVariants.{Task as TaskOf, Action as ActionOf, Unit as UnitOf}
-use Rattle.lock_journal.specs.BookView.{BookView}
-use Rattle.lock_journal.specs.Own.{is_action, is_unit}
+use Rattle.lock_journal.specs.Names.{stands_last, Fits, GraphView, action_of, task_of, IsActionOf, lock_with, task_with, Holding, StateView}
+use Rattle.lock_journal.specs.Names.{holding_of, is_parked, mark_of, owns, runs_unit, stands_in, Retention, Retain, Release, ReleaseAndReacquire}
+use Rattle.lock_journal.specs.Names.{LockId, Running, MarkId, TaskOf, ActionOf, UnitOf, BookView, is_action, is_unit}
 use Rattle.lock_journal.proofs.lemmas.Claims.{action_claimed, action_runs, task_runs, unit_claimed, unit_runs}
 use Rattle.lock_journal.proofs.lemmas.Fitting.{apart_of}
 use Rattle.lock_journal.proofs.lemmas.Owned.{stands_in_owned}
-use Rattle.coordination.specs.Agrees.{Finds}
-use Rattle.coordination.specs.Holds.{HoldsNothing}
-use Rattle.coordination.specs.Shown.{blocked_shown, claimed_shown, lease_shown, locks_shown, parked_shown}
+use Rattle.coordination.specs.Names.{Finds, HoldsNothing, blocked_shown, claimed_shown, lease_shown, locks_shown, parked_shown}
 use Rattle.coordination.specs.declared.rule.Sight.{Sight}
 use Rattle.coordination.proofs.lemmas.Entries.{belongs_sound}
 use Rattle.async_tracker.specs.Shows.{HasParkedLast, IsFree, IsIdleOrParked, IsItemHere, IsParkedBy, OwnsToPark, WorksOn}

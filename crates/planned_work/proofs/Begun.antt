@@ -5,21 +5,11 @@ use Rattle.std.proofs.lemmas.Bool.{and_parts, eq-eqb, eqb-true, false≢true, no
 use Rattle.std.proofs.lemmas.List.Folds.{Any-from_list_any, list_any_at}
 use Rattle.item_actions.specs.declared.outcomes.Outcome.{Outcome}
 use Rattle.item_actions.specs.declared.outcomes.Outcome.TheVariants.{Number, Digest}
-use Rattle.resource_lock.specs.Change.{make_all, same_mark}
-use Rattle.resource_lock.specs.GraphView.{GraphView, action_of}
-use Rattle.resource_lock.specs.Ranges.{IsFetchOf, task_with}
-use Rattle.resource_lock.specs.StateView.{StateView, holding_of, is_idle, is_parked, mark_of, runs_any, runs_by, runs_task, runs_unit, IsMarkOf}
-use Rattle.resource_lock.specs.declared.changes.Change.{Change}
-use Rattle.resource_lock.specs.declared.ids.WorkerId.{WorkerId}
-use Rattle.resource_lock.specs.declared.marks.Mark.{Mark}
-use Rattle.resource_lock.specs.declared.marks.Mark.TheVariants.{Waiting, Running, Passed, Failed}
-use Rattle.resource_lock.specs.declared.marks.MarkId.{MarkId}
-use Rattle.resource_lock.specs.declared.marks.MarkId.TheVariants.{Task as TaskOf, Action as ActionOf, Unit as UnitOf}
+use Rattle.lock_journal.specs.Names.{make_all, same_mark, GraphView, action_of, IsFetchOf, task_with, StateView, holding_of, is_idle, is_parked}
+use Rattle.lock_journal.specs.Names.{mark_of, runs_any, runs_by, runs_task, runs_unit, IsMarkOf, Change, WorkerId, Mark, Waiting, Running, Passed}
+use Rattle.lock_journal.specs.Names.{Failed, MarkId, TaskOf, ActionOf, UnitOf, Finishes, condition, earlier_passed, mark_from, works_on, Kind, Start}
+use Rattle.lock_journal.specs.Names.{Skip, Submit, Park, Resume, Claim, Close, Block, Unblock, End}
 use Rattle.resource_lock.proofs.lemmas.Undo.{same_mark_is}
-use Rattle.lock_transforms.specs.Allowed.{Finishes}
-use Rattle.lock_transforms.specs.Table.{condition, earlier_passed, mark_from, works_on}
-use Rattle.lock_transforms.specs.declared.entries.Kind.{Kind}
-use Rattle.lock_transforms.specs.declared.entries.Kind.TheVariants.{Start, Skip, Submit, Park, Resume, Claim, Close, Block, Unblock, End}
 use Rattle.lock_journal.proofs.Marks.{AllMoves-weaker, GoesTo, Names, StaysOrMoves, moves_to, stays_or_moves}
 use Rattle.lock_journal.proofs.Moves.{MayMove, list_moves}
 use Rattle.lock_journal.proofs.lemmas.Others.{running_of}

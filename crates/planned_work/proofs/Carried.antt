@@ -1,15 +1,8 @@
 -- What a decision that was made leaves, as the choice of the rules of a worker at its place.
 use Rattle.std.proofs.Common.{◌≡◌, true, false, Option, Some, inl, inr, refl, sym, ◌∙◌, subst}
-use Rattle.resource_lock.specs.declared.ids.WorkerId.{WorkerId}
-use Rattle.lock_journal.specs.BookView.{BookView}
-use Rattle.lock_transforms.specs.Allowed.{IsFixedList}
-use Rattle.lock_transforms.specs.declared.entries.Closed.{Closed}
-use Rattle.lock_transforms.specs.declared.entries.Kind.{Kind}
-use Rattle.coordination.specs.Agrees.{Finds}
-use Rattle.coordination.specs.Attempts.{Cause, Making}
-use Rattle.coordination.specs.Calls.{HasFinished}
-use Rattle.coordination.specs.Decisions.{HasCarriedOut, HasDecided}
-use Rattle.coordination.specs.RunThenDecide.{decided_of}
+use Rattle.lock_journal.specs.Names.{WorkerId, BookView, IsFixedList, Closed, Kind}
+use Rattle.coordination.specs.Names.{Finds, Cause, Making, HasFinished, HasDecided, decided_of}
+use Rattle.coordination.specs.Decisions.{HasCarriedOut}
 use Rattle.coordination.specs.declared.decisions.Decided.{Decided}
 use Rattle.coordination.specs.declared.decisions.Decided.TheVariants as decided
 use Rattle.coordination.specs.declared.rule.Sight.{Sight}

@@ -1,10 +1,8 @@
 -- What a worker does next, by what its decision came to.
 use Rattle.std.proofs.Common.{◌≡◌, ◌<◌, ℕ, Bool, true, false, inl, inr, length, refl}
 use Rattle.ready_work.specs.Choices.{has_queued}
-use Rattle.lock_journal.specs.BookView.{BookView}
-use Rattle.resource_lock.specs.declared.ids.WorkerId.{WorkerId}
-use Rattle.coordination.specs.Decisions.{HasDecided}
-use Rattle.coordination.specs.RunThenDecide.{decided_of}
+use Rattle.lock_journal.specs.Names.{BookView, WorkerId}
+use Rattle.coordination.specs.Names.{HasDecided, decided_of}
 use Rattle.coordination.specs.declared.decisions.Decided.{Decided}
 use Rattle.coordination.specs.declared.decisions.Decided.TheVariants as decided
 use Rattle.coordination.specs.declared.rule.Sight.{Sight}

@@ -6,12 +6,7 @@ use Rattle.std.specs.declared.alloc.Global.{Global}
 use Rattle.std.proofs.lemmas.List.{append-nil, drop_more}
 use Rattle.std.proofs.lemmas.List.Sums.{sum_by-append, sum_by-cons}
 use Rattle.std.proofs.Math.ListN.{drop_of_length-le}
-use Rattle.resource_lock.specs.GraphView.{GraphTaskView}
-use Rattle.resource_lock.specs.Made.{made_of}
-use Rattle.resource_lock.specs.Ranges.{units_in}
-use Rattle.resource_lock.specs.declared.graphs.GraphAction.{GraphAction}
-use Rattle.resource_lock.specs.declared.graphs.Retention.TheVariants.{Retain}
-use Rattle.resource_lock.specs.declared.ids.LockId.{LockId}
+use Rattle.lock_journal.specs.Names.{GraphTaskView, made_of, units_in, GraphAction, Retain, LockId}
 use Rattle.ready_work.specs.Rank.{lists_of}
 use Rattle.planned_work.specs.Graphs.{actions_from, actions_in, all_actions_from, graph_of_plan, rows_from}
 use Rattle.planned_work.specs.Plans.{IsPlanView, PlannedTaskView, WorkPlanView, planned_task_view, units_of_action, units_of_task}

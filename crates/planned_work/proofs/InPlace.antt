@@ -3,29 +3,15 @@ use Rattle.std.proofs.Common.{◌≡◌, ℕ, ◌+◌, ◌<◌, ◌⊎◌, true,
 use Rattle.std.specs.List.{AllByRecursion, list_all}
 use Rattle.std.proofs.lemmas.Bool.{and_parts, eq-eqb, false≢true, false_from_ne_true, not-true, or_cases}
 use Rattle.std.proofs.lemmas.List.{get_or-set_same}
-use Rattle.resource_lock.specs.Change.{can, can_all, holding_after, make, make_all, same_mark, NamesOnly}
-use Rattle.resource_lock.specs.Good.{Good}
-use Rattle.resource_lock.specs.GraphView.{GraphView, action_of, task_of}
-use Rattle.resource_lock.specs.Ranges.{IsActionOf, actions_of, is_item, items_of, lock_with, task_with}
-use Rattle.resource_lock.specs.Shape.{BelongsTo}
-use Rattle.resource_lock.specs.StateView.{Holding, StateView, holding_of, is_idle, is_owner, is_parked, mark_of, runs_unit, IsLockOf, IsWorkerOf}
-use Rattle.resource_lock.specs.declared.changes.Change.{Change}
-use Rattle.resource_lock.specs.declared.changes.Change.TheVariants.{Lock, Unlock, Take, Give, Move, Park as ParkLock, Unpark, Enter, Leave}
-use Rattle.resource_lock.specs.declared.graphs.Retention.{Retention}
-use Rattle.resource_lock.specs.declared.graphs.Retention.TheVariants.{Retain, Release, ReleaseAndReacquire}
-use Rattle.resource_lock.specs.declared.ids.LockId.{LockId}
-use Rattle.resource_lock.specs.declared.ids.WorkerId.{WorkerId}
-use Rattle.resource_lock.specs.declared.marks.Mark.{Mark}
-use Rattle.resource_lock.specs.declared.marks.Mark.TheVariants.{Waiting, Queued, Running, Passed}
-use Rattle.resource_lock.specs.declared.marks.MarkId.TheVariants.{Task as TaskOf, Action as ActionOf, Unit as UnitOf}
+use Rattle.lock_journal.specs.Names.{can, can_all, holding_after, make, make_all, same_mark, NamesOnly, Good, GraphView, action_of, task_of}
+use Rattle.lock_journal.specs.Names.{IsActionOf, actions_of, is_item, items_of, lock_with, task_with, BelongsTo, Holding, StateView, holding_of}
+use Rattle.lock_journal.specs.Names.{is_idle, is_owner, is_parked, mark_of, runs_unit, IsLockOf, IsWorkerOf, Change, Lock, Unlock, Take, Give, Move}
+use Rattle.lock_journal.specs.Names.{ParkLock, Unpark, Enter, Leave, Retention, Retain, Release, ReleaseAndReacquire, LockId, WorkerId, Mark, Waiting}
+use Rattle.lock_journal.specs.Names.{Queued, Running, Passed, TaskOf, ActionOf, UnitOf, Finishes, IsKindOf, condition, end_mark, list_of, mark_from}
+use Rattle.lock_journal.specs.Names.{on_park, on_resume, owned, parked_locks, skipped_waiting, taken_again, units_passed, Closed, Kind, Start, Skip}
+use Rattle.lock_journal.specs.Names.{Submit, Park, Resume, Claim, Close, Block, Unblock, End, Acquire, HandBack, after_all}
 use Rattle.resource_lock.proofs.lemmas.Runs.{all_named-append, all_named_along, can_all-append, make_all-append, same_shape-make, same_shape-make_all, worker_along}
 use Rattle.resource_lock.proofs.lemmas.Undo.{same_mark_is}
-use Rattle.lock_transforms.specs.Allowed.{Finishes, IsKindOf}
-use Rattle.lock_transforms.specs.Table.{condition, end_mark, list_of, mark_from, on_park, on_resume, owned, parked_locks, skipped_waiting, taken_again, units_passed}
-use Rattle.lock_transforms.specs.declared.entries.Closed.{Closed}
-use Rattle.lock_transforms.specs.declared.entries.Kind.{Kind}
-use Rattle.lock_transforms.specs.declared.entries.Kind.TheVariants.{Start, Skip, Submit, Park, Resume, Claim, Close, Block, Unblock, End, Acquire, HandBack}
-use Rattle.lock_journal.specs.OwnChanges.{after_all}
 use Rattle.lock_journal.proofs.Finished.{has_moved}
 use Rattle.lock_journal.proofs.Marks.{Names, Names-append_right, StaysOrMoves}
 use Rattle.lock_journal.proofs.Moves.{MayMove}

@@ -2,21 +2,11 @@
 use Rattle.std.proofs.Common.{◌≡◌, ◌<◌, ◌⊎◌, ℕ, true, List, [], ◌∷◌, ◌++◌, Option, None, Some, inl, inr, refl, sym, ap, ◌∙◌, subst}
 use Rattle.std.specs.Prelude.{IfSome}
 use Rattle.std.proofs.lemmas.Bool.{cases_eq}
-use Rattle.resource_lock.specs.Fits.{Fits}
-use Rattle.resource_lock.specs.GraphView.{GraphView, task_of}
-use Rattle.resource_lock.specs.Opening.{opening_of}
-use Rattle.resource_lock.specs.StateView.{Holding, StateView, holding_of, stands_in}
-use Rattle.resource_lock.specs.declared.changes.Change.{Change}
-use Rattle.resource_lock.specs.declared.ids.LockId.{LockId}
-use Rattle.resource_lock.specs.declared.ids.WorkerId.{WorkerId}
-use Rattle.resource_lock.specs.declared.marks.Mark.TheVariants.{Passed}
-use Rattle.resource_lock.specs.declared.marks.MarkId.TheVariants.{Task as TaskOf, Action as ActionOf, Unit as UnitOf}
+use Rattle.lock_journal.specs.Names.{Fits, GraphView, task_of, opening_of, Holding, StateView, holding_of, stands_in, Change, LockId, WorkerId}
+use Rattle.lock_journal.specs.Names.{Passed, TaskOf, ActionOf, UnitOf, Allowed, Finishes, IsKindOf, Lawful, lawful_from, Entry, changed, effect}
+use Rattle.lock_journal.specs.Names.{replay, replay_from, Kind, SameFor}
 use Rattle.resource_lock.proofs.lemmas.Runs.{worker_from}
 use Rattle.resource_lock.proofs.lemmas.Undo.{same_worker}
-use Rattle.lock_transforms.specs.Allowed.{Allowed, Finishes, IsKindOf, Lawful, lawful_from}
-use Rattle.lock_transforms.specs.Entry.{Entry, changed, effect, replay, replay_from}
-use Rattle.lock_transforms.specs.declared.entries.Kind.{Kind}
-use Rattle.lock_journal.specs.Own.{SameFor}
 use Rattle.lock_journal.proofs.Finished.{IsFinal, final_by}
 use Rattle.lock_journal.proofs.Kept.{mark_stays}
 use Rattle.lock_journal.proofs.lemmas.Fitting.{apart_of}

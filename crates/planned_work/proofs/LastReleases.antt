@@ -3,10 +3,7 @@ use Rattle.std.proofs.Common.{◌≡◌, ℕ, zero, suc, ◌+◌, ◌-◌, ◌<�
 use Rattle.std.specs.List.{All}
 use Rattle.std.proofs.lemmas.Bool.{cases_lt, false≢true}
 use Rattle.std.proofs.lemmas.List.{get_or-append_right, get_or_append_left}
-use Rattle.resource_lock.specs.GraphView.{no_action, no_task}
-use Rattle.resource_lock.specs.Ranges.{IsIn}
-use Rattle.resource_lock.specs.declared.graphs.GraphAction.{GraphAction}
-use Rattle.resource_lock.specs.declared.graphs.Retention.TheVariants.{Release}
+use Rattle.lock_journal.specs.Names.{no_action, no_task, IsIn, GraphAction, Release}
 use Rattle.planned_work.specs.Graphs.{actions_from, all_actions_from, graph_of_plan, rows_from}
 use Rattle.planned_work.specs.InPlace.{ReleasesLast}
 use Rattle.planned_work.specs.Plans.{IsPlanView, PlannedTaskView, ReleaseLast, WorkPlanView, is_release, units_of_action, units_of_task}

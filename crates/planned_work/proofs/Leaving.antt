@@ -1,16 +1,11 @@
 -- What a try of a transform leaves, as the call says it, and what one leaves that takes up what the worker has parked.
 use Rattle.std.proofs.Common.{◌≡◌, ◌≢◌, ◌<◌, Bool, true, false, Option, Some, None, refl, ap, ◌∙◌, subst}
-use Rattle.resource_lock.specs.declared.ids.WorkerId.{WorkerId}
-use Rattle.lock_journal.specs.BookView.{BookView}
-use Rattle.lock_transforms.specs.Allowed.{IsDisabled, IsFixedList, IsUnmet}
-use Rattle.lock_transforms.specs.declared.entries.Closed.{Closed}
+use Rattle.lock_journal.specs.Names.{WorkerId, BookView, IsDisabled, IsFixedList, IsUnmet, Closed}
 use Rattle.lock_transforms.specs.declared.entries.Kind.TheVariants as kinds
 use Rattle.lock_transforms.specs.declared.kinds.unblocks.Unblock.{Unblock as UnblockOf}
 use Rattle.worker_choices.specs.NextSteps.{can_take_up}
 use Rattle.blocking_section.specs.Sections.{CanNotTakeUp}
-use Rattle.coordination.specs.Calls.{HasFinished, WasStopped}
-use Rattle.coordination.specs.Sights.{hearing}
-use Rattle.coordination.specs.Stops.{KnowsNoStop}
+use Rattle.coordination.specs.Names.{HasFinished, WasStopped, hearing, KnowsNoStop}
 use Rattle.coordination.specs.declared.decisions.Decided.{Decided}
 use Rattle.coordination.specs.declared.decisions.Decided.TheVariants as decided
 use Rattle.coordination.specs.declared.rule.Sight.{Sight}

@@ -3,22 +3,11 @@ use Rattle.std.proofs.Common.{◌≡◌, ℕ, ◌+◌, Bool, true, false, cond, 
 use Rattle.std.specs.Prelude.{nat_le}
 use Rattle.std.specs.List.{AllByRecursion}
 use Rattle.std.proofs.lemmas.Bool.{and_parts}
-use Rattle.resource_lock.specs.Change.{holding_after, same_mark, without_last}
-use Rattle.resource_lock.specs.GraphView.{GraphView}
-use Rattle.resource_lock.specs.Ranges.{units_of}
-use Rattle.resource_lock.specs.StateView.{Holding, StateView, mark_of}
-use Rattle.resource_lock.specs.declared.changes.Change.{Change}
-use Rattle.resource_lock.specs.declared.changes.Change.TheVariants.{Lock, Unlock, Take, Give, Move, Enter, Leave}
-use Rattle.resource_lock.specs.declared.graphs.Retention.{Retention}
-use Rattle.resource_lock.specs.declared.graphs.Retention.TheVariants.{Retain, Release, ReleaseAndReacquire}
-use Rattle.resource_lock.specs.declared.ids.LockId.{LockId}
-use Rattle.resource_lock.specs.declared.ids.WorkerId.{WorkerId}
-use Rattle.resource_lock.specs.declared.marks.Mark.{Mark}
-use Rattle.resource_lock.specs.declared.marks.Mark.TheVariants.{Waiting, Queued, Running, Passed, Skipped}
-use Rattle.resource_lock.specs.declared.marks.MarkId.{MarkId}
-use Rattle.resource_lock.specs.declared.marks.MarkId.TheVariants.{Action as ActionOf}
-use Rattle.lock_transforms.specs.Table.{acquires, moved_units, on_park, on_resume, parked_locks, skipped_action, skipped_actions, skipped_waiting, taken_again}
-use Rattle.lock_journal.specs.OwnChanges.{after_all}
+use Rattle.lock_journal.specs.Names.{holding_after, same_mark, without_last, GraphView, units_of, Holding, StateView, mark_of, Change, Lock, Unlock}
+use Rattle.lock_journal.specs.Names.{Take, Give, Move, Enter, Leave, Retention, Retain, Release, ReleaseAndReacquire, LockId, WorkerId, Mark, Waiting}
+use Rattle.lock_journal.specs.Names.{Queued, Running, Passed, Skipped, MarkId, ActionOf, moved_units, on_park, on_resume, parked_locks}
+use Rattle.lock_journal.specs.Names.{skipped_action, skipped_actions, skipped_waiting, taken_again, after_all}
+use Rattle.lock_transforms.specs.Table.{acquires}
 use Rattle.lock_journal.proofs.Ranges.{each-append}
 use Rattle.planned_work.specs.InPlace.{parked_under}
 use Rattle.planned_work.proofs.LocksKept.{LeavesLocks, ParksNothing, after_all-append, none_parked, parked_stays}

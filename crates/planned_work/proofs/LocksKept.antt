@@ -5,17 +5,11 @@ use Rattle.std.specs.List.{AllByRecursion, slice_index_or}
 use Rattle.std.proofs.lemmas.Bool.{and_parts, cases_eq, eq-eqb, eqb-true, or_cases}
 use Rattle.std.proofs.lemmas.List.{get_or-set_other, get_or-set_same, length-reverse, length-take-le}
 use Rattle.std.proofs.lemmas.List.Folds.{list_any-append}
-use Rattle.resource_lock.specs.Change.{can, can_all, holding_after, make, make_all, stands_last, without_last, NamesOnly}
-use Rattle.resource_lock.specs.StateView.{Holding, StateView, holding_of, is_owner, owns, stands_in, IsLockOf, IsWorkerOf}
-use Rattle.resource_lock.specs.declared.changes.Change.{Change}
-use Rattle.resource_lock.specs.declared.changes.Change.TheVariants.{Lock, Unlock, Take, Give, Move, Park as ParkLock, Unpark, Enter, Leave}
-use Rattle.resource_lock.specs.declared.ids.LockId.{LockId}
-use Rattle.resource_lock.specs.declared.ids.WorkerId.{WorkerId}
-use Rattle.resource_lock.specs.declared.marks.MarkId.TheVariants.{Task as TaskOf, Action as ActionOf, Unit as UnitOf}
+use Rattle.lock_journal.specs.Names.{can, can_all, holding_after, make, make_all, stands_last, without_last, NamesOnly, Holding, StateView}
+use Rattle.lock_journal.specs.Names.{holding_of, is_owner, owns, stands_in, IsLockOf, IsWorkerOf, Change, Lock, Unlock, Take, Give, Move, ParkLock}
+use Rattle.lock_journal.specs.Names.{Unpark, Enter, Leave, LockId, WorkerId, TaskOf, ActionOf, UnitOf, parked_locks, taken_again, after_all}
 use Rattle.resource_lock.proofs.lemmas.Runs.{same_shape-make, worker_along, all_named_along}
 use Rattle.resource_lock.proofs.lemmas.Undo.{last_from, same_lock}
-use Rattle.lock_transforms.specs.Table.{parked_locks, taken_again}
-use Rattle.lock_journal.specs.OwnChanges.{after_all}
 use Rattle.lock_journal.proofs.lemmas.OwnChanges.{own_holding}
 use Rattle.async_tracker.proofs.Parking.{stands_in-last}
 use Rattle.planned_work.specs.InPlace.{HasLock}

@@ -3,21 +3,11 @@ use Rattle.std.proofs.Common.{◌≡◌, ◌≢◌, ℕ, ◌⊎◌, true, false,
 use Rattle.std.specs.List.{list_all}
 use Rattle.std.proofs.lemmas.Bool.{and_from, and_parts, cases_eq, eq-eqb, false≢true, not_from_false}
 use Rattle.item_actions.specs.declared.outcomes.Outcome.TheVariants as outcomes
-use Rattle.resource_lock.specs.Change.{same_mark}
-use Rattle.resource_lock.specs.Fits.{Fits}
-use Rattle.resource_lock.specs.GraphView.{task_of}
-use Rattle.resource_lock.specs.Ranges.{actions_of}
-use Rattle.resource_lock.specs.StateView.{holding_of, mark_of}
-use Rattle.resource_lock.specs.declared.ids.WorkerId.{WorkerId}
-use Rattle.resource_lock.specs.declared.marks.Mark.TheVariants.{Passed, Running}
-use Rattle.resource_lock.specs.declared.marks.MarkId.TheVariants.{Action as ActionOf}
-use Rattle.lock_transforms.specs.Allowed.{IsDisabled}
-use Rattle.lock_transforms.specs.Table.{condition, has_passed, never_ran}
+use Rattle.lock_journal.specs.Names.{same_mark, Fits, task_of, actions_of, holding_of, mark_of, WorkerId, Passed, Running, ActionOf, IsDisabled}
+use Rattle.lock_journal.specs.Names.{condition, has_passed, never_ran, BookView}
 use Rattle.lock_transforms.specs.declared.entries.Kind.TheVariants as kinds
-use Rattle.lock_journal.specs.BookView.{BookView}
 use Rattle.lock_journal.proofs.lemmas.Fitting.{apart_of}
-use Rattle.coordination.specs.Agrees.{Finds}
-use Rattle.coordination.specs.Shown.{blocked_shown, claimed_shown, lease_shown}
+use Rattle.coordination.specs.Names.{Finds, blocked_shown, claimed_shown, lease_shown}
 use Rattle.coordination.specs.declared.rule.Sight.{Sight}
 use Rattle.async_tracker.specs.NextWork.{step_of_next, step_of_parked}
 use Rattle.async_tracker.specs.TaskMoves.{step_of_move}

@@ -3,23 +3,10 @@ use Rattle.std.proofs.Common.{◌≡◌, ℕ, ◌<◌, Bool, true, false, cond, 
 use Rattle.std.specs.Prelude.{IfSome}
 use Rattle.std.specs.List.{list_all}
 use Rattle.std.proofs.lemmas.Bool.{and_parts}
-use Rattle.resource_lock.specs.Change.{make_all}
-use Rattle.resource_lock.specs.Fits.{Fits}
-use Rattle.resource_lock.specs.GraphView.{GraphView}
-use Rattle.resource_lock.specs.Opening.{opening_of}
-use Rattle.resource_lock.specs.Ranges.{IsActionOf, IsUnitOf, actions_of, task_with}
-use Rattle.resource_lock.specs.Shape.{BelongsTo}
-use Rattle.resource_lock.specs.StateView.{StateView, mark_of}
-use Rattle.resource_lock.specs.declared.changes.Change.{Change}
-use Rattle.resource_lock.specs.declared.ids.WorkerId.{WorkerId}
-use Rattle.resource_lock.specs.declared.marks.Mark.{Mark}
-use Rattle.resource_lock.specs.declared.marks.Mark.TheVariants.{Waiting, Queued, Running, Passed, Failed, Skipped}
-use Rattle.resource_lock.specs.declared.marks.MarkId.TheVariants.{Task as TaskOf, Action as ActionOf, Unit as UnitOf}
-use Rattle.lock_transforms.specs.Allowed.{Finishes, IsKindOf, Lawful, lawful_from}
-use Rattle.lock_transforms.specs.Entry.{Entry, changed, effect, replay, replay_from}
-use Rattle.lock_transforms.specs.Table.{condition, units_passed}
-use Rattle.lock_transforms.specs.declared.entries.Kind.{Kind}
-use Rattle.lock_transforms.specs.declared.entries.Kind.TheVariants.{Start, Skip, Submit, Park, Resume, Claim, Close, Block, Unblock, End}
+use Rattle.lock_journal.specs.Names.{make_all, Fits, GraphView, opening_of, IsActionOf, IsUnitOf, actions_of, task_with, BelongsTo, StateView}
+use Rattle.lock_journal.specs.Names.{mark_of, Change, WorkerId, Mark, Waiting, Queued, Running, Passed, Failed, Skipped, TaskOf, ActionOf, UnitOf}
+use Rattle.lock_journal.specs.Names.{Finishes, IsKindOf, Lawful, lawful_from, Entry, changed, effect, replay, replay_from, condition, units_passed}
+use Rattle.lock_journal.specs.Names.{Kind, Start, Skip, Submit, Park, Resume, Claim, Close, Block, Unblock, End}
 use Rattle.lock_journal.proofs.Finished.{final_by, has_moved}
 use Rattle.lock_journal.proofs.Kept.{mark_stays}
 use Rattle.lock_journal.proofs.MarkConditions.{mark_condition}

@@ -1,16 +1,9 @@
 -- What a worker's place says of its marks, in each book that it finds.
 use Rattle.std.proofs.Common.{◌≡◌, ◌<◌, ℕ, zero, suc, Bool, true, false, List, [], ◌∷◌, Option, Some, None, arith, get_or, length, refl, subst}
 use Rattle.std.specs.Prelude.{Contains}
-use Rattle.resource_lock.specs.StateView.{mark_of}
-use Rattle.resource_lock.specs.declared.ids.WorkerId.{WorkerId}
-use Rattle.resource_lock.specs.declared.marks.Mark.{Mark}
-use Rattle.resource_lock.specs.declared.marks.Mark.TheVariants.{Running, Waiting}
-use Rattle.resource_lock.specs.declared.marks.MarkId.{MarkId}
-use Rattle.resource_lock.specs.declared.marks.MarkId.TheVariants.{Task as TaskOf, Action as ActionOf, Unit as UnitOf}
-use Rattle.lock_journal.specs.BookView.{BookView}
+use Rattle.lock_journal.specs.Names.{mark_of, WorkerId, Mark, Running, Waiting, MarkId, TaskOf, ActionOf, UnitOf, BookView}
 use Rattle.lock_journal.proofs.lemmas.Claims.{action_runs, task_runs}
-use Rattle.coordination.specs.Agrees.{Finds}
-use Rattle.coordination.specs.Shown.{blocked_shown, claimed_shown}
+use Rattle.coordination.specs.Names.{Finds, blocked_shown, claimed_shown}
 use Rattle.coordination.specs.declared.rule.Sight.{Sight}
 use Rattle.coordination.proofs.lemmas.Entries.{belongs_sound}
 use Rattle.planned_work.specs.Places.{action_in, has_any, place_by, place_of, task_in, unit_in}

@@ -2,19 +2,10 @@
 use Rattle.std.proofs.Common.{◌≡◌, ℕ, zero, suc, ◌<◌, ◌++◌, List, [], ◌∷◌, length, get_or, map, refl, sym, ap, subst, arith}
 use Rattle.std.specs.List.{All, Any}
 use Rattle.std.proofs.lemmas.List.{length-map}
-use Rattle.resource_lock.specs.Fits.{Fits}
-use Rattle.resource_lock.specs.GraphView.{GraphView, GraphTaskView, no_task}
-use Rattle.resource_lock.specs.StateView.{StateView}
+use Rattle.lock_journal.specs.Names.{Fits, GraphView, GraphTaskView, no_task, StateView, BookView, IsEnded, AreRanks, Lawful, Entry, replay}
 use Rattle.ready_work.specs.Numbering.{IsNumbering}
 use Rattle.ready_work.specs.Rank.{Dependencies, InRange, after}
-use Rattle.lock_journal.specs.BookView.{BookView}
-use Rattle.lock_journal.specs.Marks.{IsEnded}
-use Rattle.lock_journal.specs.Outcomes.{AreRanks}
-use Rattle.lock_transforms.specs.Allowed.{Lawful}
-use Rattle.lock_transforms.specs.Entry.{Entry, replay}
-use Rattle.coordination.specs.Agrees.{Agrees}
-use Rattle.coordination.specs.Closings.{IsClosedBy}
-use Rattle.coordination.specs.Passes.{PassView}
+use Rattle.coordination.specs.Names.{Agrees, IsClosedBy, PassView}
 use Rattle.coordination.specs.declared.rule.Sight.{Sight}
 use Rattle.coordination.proofs.lemmas.Numbered.{element}
 use Rattle.planned_work.specs.Next.{IsToldTheEnd}

@@ -3,22 +3,12 @@ use Rattle.std.proofs.Common.{◌≡◌, ◌+◌, ◌<◌, ℕ, zero, suc, Bool,
 use Rattle.std.specs.Prelude.{find, if◌then◌else◌}
 use Rattle.std.specs.List.{list_any, range_with_len}
 use Rattle.std.proofs.lemmas.Bool.{and_parts, false≢true}
-use Rattle.resource_lock.specs.Change.{can_all, same_mark}
-use Rattle.resource_lock.specs.Fits.{Fits}
-use Rattle.resource_lock.specs.GraphView.{GraphView, action_of, task_of}
-use Rattle.resource_lock.specs.Ranges.{IsActionOf, IsIn, lock_with}
-use Rattle.resource_lock.specs.StateView.{StateView, mark_of}
-use Rattle.resource_lock.specs.declared.ids.WorkerId.{WorkerId}
-use Rattle.resource_lock.specs.declared.marks.Mark.TheVariants.{Waiting}
-use Rattle.resource_lock.specs.declared.marks.MarkId.TheVariants.{Unit as UnitOf}
+use Rattle.lock_journal.specs.Names.{can_all, same_mark, Fits, GraphView, action_of, task_of, IsActionOf, IsIn, lock_with, StateView, mark_of}
+use Rattle.lock_journal.specs.Names.{WorkerId, Waiting, UnitOf, condition, is_enabled, list_of, is_unit}
 use Rattle.ready_work.specs.Choices.{has_queued}
-use Rattle.lock_transforms.specs.Table.{condition, is_enabled, list_of}
 use Rattle.lock_transforms.specs.declared.entries.Kind.TheVariants as kinds
-use Rattle.lock_journal.specs.Own.{is_unit}
 use Rattle.lock_journal.proofs.lemmas.Fitting.{apart_of}
-use Rattle.coordination.specs.Decisions.{IsToWaitIn}
-use Rattle.coordination.specs.Holds.{HoldsNothing}
-use Rattle.coordination.specs.Shown.{claimed_shown}
+use Rattle.coordination.specs.Names.{IsToWaitIn, HoldsNothing, claimed_shown}
 use Rattle.coordination.specs.declared.rule.Sight.{Sight}
 use Rattle.async_tracker.specs.NextWork.{step_of_next, step_of_parked}
 use Rattle.async_tracker.specs.ParkedView.{ParkedView}

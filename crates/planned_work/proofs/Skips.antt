@@ -3,22 +3,14 @@ use Rattle.std.proofs.Common.{◌≡◌, ℕ, zero, suc, ◌+◌, Bool, true, fa
 use Rattle.std.specs.List.{AllByRecursion, list_all, range_with_len}
 use Rattle.std.proofs.lemmas.Bool.{and_from, and_parts, eq-eqb}
 use Rattle.std.proofs.lemmas.List.{get_or-set_other}
-use Rattle.resource_lock.specs.Change.{can, can_all, make, make_all, same_mark}
-use Rattle.resource_lock.specs.GraphView.{GraphView, action_of, task_of}
-use Rattle.resource_lock.specs.Ranges.{IsActionOf, IsIn, IsUnitOf, actions_of, units_in, units_of}
-use Rattle.resource_lock.specs.StateView.{Holding, StateView, empty_holding, holding_of, is_owner, mark_of, owns}
+use Rattle.lock_journal.specs.Names.{can, can_all, make, make_all, same_mark, GraphView, action_of, task_of, IsActionOf, IsIn, IsUnitOf, actions_of}
+use Rattle.lock_journal.specs.Names.{units_in, units_of, Holding, StateView, empty_holding, holding_of, is_owner, mark_of, owns, Change, Lock, Unlock}
+use Rattle.lock_journal.specs.Names.{Take, Give, Move, ParkLock, Unpark, Enter, Leave, WorkerId, Mark, Waiting, Running, Passed, Failed, Skipped}
+use Rattle.lock_journal.specs.Names.{MarkId, TaskOf, ActionOf, UnitOf, end_mark, has_passed, list_of, moved_units, never_ran, skipped_action}
+use Rattle.lock_journal.specs.Names.{skipped_actions, skipped_waiting, units_passed, Skip, End}
 use Rattle.std.specs.Prelude.{None, slice_index_or}
-use Rattle.resource_lock.specs.declared.changes.Change.{Change}
-use Rattle.resource_lock.specs.declared.changes.Change.TheVariants.{Lock, Unlock, Take, Give, Move, Park as ParkLock, Unpark, Enter, Leave}
-use Rattle.resource_lock.specs.declared.ids.WorkerId.{WorkerId}
-use Rattle.resource_lock.specs.declared.marks.Mark.{Mark}
-use Rattle.resource_lock.specs.declared.marks.Mark.TheVariants.{Waiting, Running, Passed, Failed, Skipped}
-use Rattle.resource_lock.specs.declared.marks.MarkId.{MarkId}
-use Rattle.resource_lock.specs.declared.marks.MarkId.TheVariants.{Task as TaskOf, Action as ActionOf, Unit as UnitOf}
 use Rattle.resource_lock.proofs.lemmas.Runs.{can_all-append}
 use Rattle.resource_lock.proofs.lemmas.Undo.{same_mark_is}
-use Rattle.lock_transforms.specs.Table.{end_mark, has_passed, list_of, moved_units, never_ran, skipped_action, skipped_actions, skipped_waiting, units_passed}
-use Rattle.lock_transforms.specs.declared.entries.Kind.TheVariants.{Skip, End}
 use Rattle.lock_journal.proofs.Kept.{list_all-true}
 use Rattle.lock_journal.proofs.Marks.{AllMoves, AllMoves-append, StaysOrMoves, stays_or_moves}
 use Rattle.lock_journal.proofs.Ranges.{each-append, each_action, each_has, each_unit, has_action, has_unit, unit_of_range}

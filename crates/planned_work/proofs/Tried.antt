@@ -1,17 +1,8 @@
 -- What one try of a turn leaves, of a book whose own queued units are offered.
 use Rattle.std.proofs.Common.{◌≡◌, ◌≢◌, ◌<◌, Bool, true, false, Option, inl, inr, refl, sym, ap, ◌∙◌, subst}
-use Rattle.resource_lock.specs.GraphView.{GraphView}
-use Rattle.resource_lock.specs.declared.ids.WorkerId.{WorkerId}
-use Rattle.lock_journal.specs.BookView.{BookView}
-use Rattle.lock_transforms.specs.declared.entries.Kind.{Kind}
-use Rattle.coordination.specs.Agrees.{Finds, IsSoundBook}
-use Rattle.coordination.specs.Attempts.{Cause, Making}
-use Rattle.coordination.specs.Calls.{IsAnswered}
-use Rattle.coordination.specs.Decisions.{DecideGives, HadStep, HasDecided}
-use Rattle.coordination.specs.Offered.{AsTold, WaitsAsTold}
-use Rattle.coordination.specs.Planned.{TellsOwn}
-use Rattle.coordination.specs.RunThenDecide.{FollowGives, HasDecidedBehind, HasFollowed, decided_of}
-use Rattle.coordination.specs.Turns.{AskGives, HasTurned, RunGives}
+use Rattle.lock_journal.specs.Names.{GraphView, WorkerId, BookView, Kind}
+use Rattle.coordination.specs.Names.{Finds, IsSoundBook, Cause, Making, IsAnswered, DecideGives, HadStep, HasDecided, AsTold, WaitsAsTold, TellsOwn}
+use Rattle.coordination.specs.Names.{FollowGives, HasDecidedBehind, HasFollowed, decided_of, AskGives, HasTurned, RunGives}
 use Rattle.coordination.specs.declared.decisions.Decided.{Decided}
 use Rattle.coordination.specs.declared.decisions.Decided.TheVariants as decided
 use Rattle.coordination.specs.declared.decisions.Followed.{Followed}

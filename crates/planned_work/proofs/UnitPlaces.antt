@@ -7,15 +7,10 @@ use Rattle.std.specs.Prelude.{IfSome, sum_by}
 use Rattle.std.proofs.lemmas.List.{length-map, take_all}
 use Rattle.std.proofs.lemmas.List.Elements.{All-map}
 use Rattle.std.proofs.lemmas.List.Sums.{sum_by-cons}
-use Rattle.resource_lock.specs.Fits.{Fits, Follow}
-use Rattle.resource_lock.specs.GraphView.{GraphView, GraphTaskView, action_of, no_action, no_task, task_of}
+use Rattle.lock_journal.specs.Names.{Fits, Follow, GraphView, GraphTaskView, action_of, no_action, no_task, task_of, made_of, IsActionOf, IsIn}
+use Rattle.lock_journal.specs.Names.{fetches, first_item, units_in, GraphAction, LockId, MAX_ACTIONS_PER_TASK, MAX_AFTER}
 use Rattle.resource_lock.specs.GraphTasks.{graph_view, tasks_from}
-use Rattle.resource_lock.specs.Made.{made_of}
-use Rattle.resource_lock.specs.Ranges.{IsActionOf, IsIn, fetches, first_item, units_in}
-use Rattle.resource_lock.specs.declared.graphs.GraphAction.{GraphAction}
 use Rattle.resource_lock.specs.declared.graph_tasks.GraphTask.{GraphTask}
-use Rattle.resource_lock.specs.declared.ids.LockId.{LockId}
-use Rattle.resource_lock.specs.declared.limits.TheConstants.{MAX_ACTIONS_PER_TASK, MAX_AFTER}
 use Rattle.planned_work.specs.Numbers.{IsActionAt, IsUnitAt, IsUnitIn, task_without_names, without_names}
 use Rattle.planned_work.specs.declared.numbers.Numbered.{Numbered}
 

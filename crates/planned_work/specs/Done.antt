@@ -1,17 +1,11 @@
 -- What closing a unit leaves, and what is decided behind it in the same hold.
 use Rattle.std.specs.Prelude.{ℕ, ◌≡◌, ◌⊎◌, Bool, true, false, Option, Some, None}
 use Rattle.item_actions.specs.declared.outcomes.Outcome.TheVariants as outcomes
-use Rattle.resource_lock.specs.declared.ids.WorkerId.{WorkerId}
-use Rattle.lock_journal.specs.BookView.{BookView}
-use Rattle.lock_transforms.specs.Allowed.{IsDisabled, IsFixedList}
-use Rattle.lock_transforms.specs.declared.entries.Closed.{Closed}
+use Rattle.lock_journal.specs.Names.{WorkerId, BookView, IsDisabled, IsFixedList, Closed}
 use Rattle.lock_transforms.specs.declared.entries.Kind.TheVariants as kinds
 use Rattle.worker_choices.specs.NextSteps.{can_take_up}
 use Rattle.blocking_section.specs.Sections.{CanNotTakeUp}
-use Rattle.coordination.specs.Agrees.{Finds}
-use Rattle.coordination.specs.Calls.{HasFinished, HasLooked, WasStopped}
-use Rattle.coordination.specs.Decisions.{HadStep}
-use Rattle.coordination.specs.Stops.{KnowsNoStop}
+use Rattle.coordination.specs.Names.{Finds, HasFinished, HasLooked, WasStopped, HadStep, KnowsNoStop}
 use Rattle.coordination.specs.declared.rule.Sight.{Sight}
 use Rattle.async_tracker.specs.NextWork.{step_of_next, step_of_parked}
 use Rattle.planned_work.specs.Next.{GivesWork, HasNoChoice, IsIdleChoice, IsParkedChoice, IsStuckAt, StepsOn}

@@ -2,8 +2,7 @@
 use mathlib.Core.HLevel.{×_prop}
 use Rattle.std.specs.Prelude.{ℕ, ◌≡◌, ◌+◌, List, [], ◌∷◌}
 use Rattle.std.proofs.Props.{props}
-use Rattle.resource_lock.specs.Fits.{Fits, Follow}
-use Rattle.resource_lock.specs.GraphView.{GraphView}
+use Rattle.lock_journal.specs.Names.{Fits, Follow, GraphView}
 use Rattle.planned_work.specs.InPlace.{ReleasesLast}
 use Rattle.planned_work.specs.Ranks.{HasRanks, HasRanks-prop}
 

@@ -1,8 +1,6 @@
 -- The graph of a plan that was made by calls.
 use Rattle.std.specs.Prelude.{ℕ, ◌+◌, List, [], ◌∷◌, ◌++◌, length, sum_by, Some, ⊤}
-use Rattle.resource_lock.specs.Fits.{Fits}
-use Rattle.resource_lock.specs.GraphView.{GraphView, GraphTaskView}
-use Rattle.resource_lock.specs.declared.graphs.GraphAction.{GraphAction}
+use Rattle.lock_journal.specs.Names.{Fits, GraphView, GraphTaskView, GraphAction}
 use Rattle.ready_work.specs.Rank.{IsFirstCycle}
 use Rattle.planned_work.specs.Plans.{PlannedTaskView, WorkPlanView, units_of_action, units_of_plan, units_of_task}
 use Rattle.planned_work.specs.declared.opening.OpenRefusal.{OpenRefusal}

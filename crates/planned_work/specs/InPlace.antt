@@ -1,14 +1,8 @@
 -- What a worker has by what it runs, after each lawful history.
 use Rattle.std.specs.Prelude.{ℕ, ◌≡◌, ◌⊎◌, ◌+◌, true, false, List, [], ◌∷◌}
-use Rattle.resource_lock.specs.GraphView.{GraphView, action_of, task_of}
-use Rattle.resource_lock.specs.Ranges.{IsActionOf, is_item, lock_with}
-use Rattle.resource_lock.specs.StateView.{StateView, has_parked, holding_of, is_parked, mark_of, owns, runs_unit}
-use Rattle.resource_lock.specs.declared.graphs.Retention.{Retention}
-use Rattle.resource_lock.specs.declared.graphs.Retention.TheVariants.{Retain, Release}
-use Rattle.resource_lock.specs.declared.ids.LockId.{LockId}
-use Rattle.resource_lock.specs.declared.ids.WorkerId.{WorkerId}
-use Rattle.resource_lock.specs.declared.marks.Mark.TheVariants.{Passed, Running}
-use Rattle.resource_lock.specs.declared.marks.MarkId.TheVariants.{Task as TaskOf, Action as ActionOf, Unit as UnitOf}
+use Rattle.lock_journal.specs.Names.{GraphView, action_of, task_of, IsActionOf, is_item, lock_with, StateView, has_parked, holding_of, is_parked}
+use Rattle.lock_journal.specs.Names.{mark_of, owns, runs_unit, Retention, Retain, Release, LockId, WorkerId, Passed, Running, TaskOf, ActionOf}
+use Rattle.lock_journal.specs.Names.{UnitOf}
 
 -- the worker owns the lock, or has parked it
 abbrev pub HasLock : StateView → WorkerId → LockId → Type 0

@@ -1,14 +1,10 @@
 -- What a worker does next, as the rules give it: of which book, and in which entry.
 use Rattle.std.specs.Prelude.{ℕ, ◌≡◌, ◌<◌, ◌⊎◌, Bool, true, false, not, Option, Some}
-use Rattle.resource_lock.specs.declared.ids.WorkerId.{WorkerId}
+use Rattle.lock_journal.specs.Names.{WorkerId, BookView, IsFixedList, Kind}
 use Rattle.ready_work.specs.Choices.{has_queued}
-use Rattle.lock_journal.specs.BookView.{BookView}
-use Rattle.lock_transforms.specs.Allowed.{IsFixedList}
-use Rattle.lock_transforms.specs.declared.entries.Kind.{Kind}
 use Rattle.lock_transforms.specs.declared.entries.Kind.TheVariants as kinds
 use Rattle.worker_choices.specs.NextSteps.{HasNothingToDo, HasToWait}
-use Rattle.coordination.specs.Calls.{HasFinished, HasLooked, IsAnswered}
-use Rattle.coordination.specs.Sights.{hearing}
+use Rattle.coordination.specs.Names.{HasFinished, HasLooked, IsAnswered, hearing}
 use Rattle.coordination.specs.declared.rule.Sight.{Sight}
 use Rattle.async_tracker.specs.NextWork.{IsNextParkedWork, IsNextWork, step_of_next, step_of_parked}
 use Rattle.async_tracker.specs.TaskMoves.{IsNextInTask, step_of_move}

@@ -1,7 +1,6 @@
 -- Actions and units by their places in a plan.
 use Rattle.std.specs.Prelude.{ℕ, ◌≡◌, ◌+◌, ◌<◌, [], map, Option, Some, None, length}
-use Rattle.resource_lock.specs.GraphView.{GraphView, GraphTaskView, action_of, task_of}
-use Rattle.resource_lock.specs.Ranges.{IsActionOf, IsFetchOf, IsItemOf, first_item}
+use Rattle.lock_journal.specs.Names.{GraphView, GraphTaskView, action_of, task_of, IsActionOf, IsFetchOf, IsItemOf, first_item}
 use Rattle.planned_work.specs.declared.numbers.Numbered.{Numbered}
 
 -- the task without the names that it comes after

@@ -2,12 +2,8 @@
 use Rattle.std.specs.Prelude.{ℕ, ◌≡◌, List, [], map}
 use Rattle.std.specs.List.{All}
 use Rattle.atomic_table.specs.Seated.{TableId}
-use Rattle.lock_journal.specs.BookView.{BookView}
-use Rattle.resource_lock.specs.AtRest.{IsAtRest}
-use Rattle.resource_lock.specs.Fits.{Fits}
-use Rattle.resource_lock.specs.GraphView.{GraphView}
-use Rattle.coordination.specs.Passes.{PassView}
-use Rattle.coordination.specs.Sights.{sights_from}
+use Rattle.lock_journal.specs.Names.{BookView, IsAtRest, Fits, GraphView}
+use Rattle.coordination.specs.Names.{PassView, sights_from}
 use Rattle.planned_work.specs.Graphs.{graph_of_plan}
 use Rattle.planned_work.specs.Plans.{WorkPlanView}
 use Rattle.planned_work.specs.Ranks.{HasRanks}

@@ -1,7 +1,6 @@
 -- Where a worker of a plan is, by what its pass shows, and where it may make which call.
 use Rattle.std.specs.Prelude.{ℕ, ◌==◌, Bool, true, false, not, ◌&&◌, ◌||◌, List, [], ◌∷◌, Option, Some, None, length}
-use Rattle.resource_lock.specs.declared.marks.MarkId.{MarkId}
-use Rattle.resource_lock.specs.declared.marks.MarkId.TheVariants.{Task as TaskOf, Action as ActionOf, Unit as UnitOf}
+use Rattle.lock_journal.specs.Names.{MarkId, TaskOf, ActionOf, UnitOf}
 use Rattle.coordination.specs.Shown.{blocked_shown, claimed_shown, lease_shown, locks_shown}
 use Rattle.coordination.specs.declared.rule.Sight.{Sight}
 use Rattle.planned_work.specs.declared.places.Place.{Place}

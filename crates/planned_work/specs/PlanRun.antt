@@ -2,13 +2,7 @@
 use Rattle.std.specs.Prelude.{ℕ, ◌≡◌, List, ◌++◌, length}
 use Rattle.std.specs.List.{All}
 use Rattle.item_actions.specs.declared.outcomes.Outcome.{Outcome}
-use Rattle.resource_lock.specs.Good.{Good}
-use Rattle.resource_lock.specs.GraphView.{GraphView}
-use Rattle.lock_transforms.specs.Allowed.{Lawful}
-use Rattle.lock_transforms.specs.Entry.{Entry, replay}
-use Rattle.lock_journal.specs.BookView.{BookView}
-use Rattle.lock_journal.specs.Marks.{HasEnded, IsEnded}
-use Rattle.lock_journal.specs.Runs.{ComesTo, GivesClosedOutcomes, IsOrderly}
+use Rattle.lock_journal.specs.Names.{Good, GraphView, Lawful, Entry, replay, BookView, HasEnded, IsEnded, ComesTo, GivesClosedOutcomes, IsOrderly}
 use Rattle.coordination.specs.Agrees.{IsSoundBook}
 use Rattle.coordination.specs.declared.rule.Sight.{Sight}
 

@@ -3,11 +3,8 @@ use Rattle.std.specs.Prelude.{ℕ, ◌≡◌, ◌⊎◌, ◌+◌, ◌<◌, ◌�
 use Rattle.std.specs.Prelude.{length, map, set, slice_get, slice_index_or, sum_by}
 use Rattle.std.specs.List.{All, list_all}
 use Rattle.std.specs.declared.alloc.Global.{Global}
-use Rattle.resource_lock.specs.Ranges.{fetches}
-use Rattle.resource_lock.specs.declared.graphs.Retention.{Retention}
-use Rattle.resource_lock.specs.declared.graphs.Retention.TheVariants.{Retain, Release, ReleaseAndReacquire}
-use Rattle.resource_lock.specs.declared.ids.LockId.{LockId}
-use Rattle.resource_lock.specs.declared.limits.TheConstants.{MAX_LOCKS, MAX_TASKS, MAX_UNITS, MAX_ACTIONS_PER_TASK, MAX_AFTER}
+use Rattle.lock_journal.specs.Names.{fetches, Retention, Retain, Release, ReleaseAndReacquire, LockId, MAX_UNITS, MAX_ACTIONS_PER_TASK, MAX_AFTER}
+use Rattle.resource_lock.specs.declared.limits.TheConstants.{MAX_LOCKS, MAX_TASKS}
 use Rattle.ready_work.specs.Rank.{lists_of}
 use Rattle.planned_work.specs.declared.plans.PlanRefusal.{PlanRefusal}
 use Rattle.planned_work.specs.declared.plans.PlanRefusal.TheVariants.{BadNumber, TooMany, Misused, NoMemory}

@@ -1,17 +1,8 @@
 -- What one try of a decision or of a transform leaves of a worker of a plan.
 use Rattle.std.specs.Prelude.{◌≡◌, ◌≢◌, ◌⊎◌, Bool, true, false, Option}
-use Rattle.resource_lock.specs.GraphView.{GraphView}
-use Rattle.resource_lock.specs.StateView.{StateView}
-use Rattle.resource_lock.specs.declared.ids.WorkerId.{WorkerId}
+use Rattle.lock_journal.specs.Names.{GraphView, StateView, WorkerId, BookView, Kind}
 use Rattle.ready_work.specs.Choices.{has_queued}
-use Rattle.lock_journal.specs.BookView.{BookView}
-use Rattle.lock_transforms.specs.declared.entries.Kind.{Kind}
-use Rattle.coordination.specs.Agrees.{Finds}
-use Rattle.coordination.specs.Attempts.{Cause, Making}
-use Rattle.coordination.specs.Calls.{HasFinished, HasLooked}
-use Rattle.coordination.specs.Decisions.{HadStep, HasDecided}
-use Rattle.coordination.specs.RunThenDecide.{HasDecidedBehind}
-use Rattle.coordination.specs.Sights.{seeing}
+use Rattle.coordination.specs.Names.{Finds, Cause, Making, HasFinished, HasLooked, HadStep, HasDecided, HasDecidedBehind, seeing}
 use Rattle.coordination.specs.declared.decisions.Decided.{Decided}
 use Rattle.coordination.specs.declared.decisions.Followed.{Followed}
 use Rattle.coordination.specs.declared.decisions.Followed.TheVariants as followed

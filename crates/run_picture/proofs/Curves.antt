@@ -4,11 +4,7 @@ use Rattle.std.specs.Prelude.{min, max, All}
 use Rattle.std.specs.List.{AllByRecursion}
 use Rattle.std.proofs.lemmas.List.{length-take, length-drop, get_or-take, get_or-drop, take_more, take_all}
 use Rattle.std.proofs.lemmas.List.Elements.{All-from_recursion}
-use Rattle.resource_lock.specs.Fits.{Fits}
-use Rattle.resource_lock.specs.GraphView.{GraphView}
-use Rattle.resource_lock.specs.StateView.{StateView, leases_out}
-use Rattle.lock_transforms.specs.Allowed.{Lawful}
-use Rattle.lock_transforms.specs.Entry.{Entry, prefix_state}
+use Rattle.lock_journal.specs.Names.{Fits, GraphView, StateView, leases_out, Lawful, Entry, prefix_state}
 use Rattle.history_text.specs.HistoryView.{HistoryView}
 use Rattle.history_text.specs.Text.{numbered}
 use Rattle.run_spans.specs.Levels.{levels_of, nothing_out, units_queued}

@@ -4,16 +4,9 @@ use Rattle.std.specs.Prelude.{Option, None, min, nat_lt, ◌&&◌, All}
 use Rattle.std.specs.List.{AllByRecursion, filter, flat_map}
 use Rattle.std.proofs.lemmas.Bool.{lt-ltb, and_from, true≢false}
 use Rattle.std.proofs.lemmas.List.Elements.{All-from_recursion}
-use Rattle.resource_lock.specs.GraphView.{GraphView}
-use Rattle.resource_lock.specs.StateView.{holding_of, mark_of, has_parked}
-use Rattle.resource_lock.specs.declared.changes.Change.{Change}
-use Rattle.resource_lock.specs.declared.ids.LockId.{LockId}
-use Rattle.resource_lock.specs.declared.ids.WorkerId.{WorkerId}
-use Rattle.resource_lock.specs.declared.marks.Mark.{Mark}
+use Rattle.lock_journal.specs.Names.{GraphView, holding_of, mark_of, has_parked, Change, LockId, WorkerId, Mark, ActionOf, Lawful, Entry}
+use Rattle.lock_journal.specs.Names.{prefix_state}
 use Rattle.resource_lock.specs.declared.marks.Mark.TheVariants as marks
-use Rattle.resource_lock.specs.declared.marks.MarkId.TheVariants.{Action as ActionOf}
-use Rattle.lock_transforms.specs.Allowed.{Lawful}
-use Rattle.lock_transforms.specs.Entry.{Entry, prefix_state}
 use Rattle.history_text.specs.Fitting.{EntriesFit, EffectFits, ChangesFit}
 use Rattle.history_text.specs.HistoryView.{HistoryView}
 use Rattle.run_spans.specs.Covering.{Covered}

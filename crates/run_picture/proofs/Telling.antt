@@ -4,8 +4,7 @@ use Rattle.std.specs.Prelude.{is_some}
 use Rattle.std.specs.List.{list_all, AllByRecursion}
 use Rattle.std.proofs.lemmas.Bool.{and_from, and_parts, true≢false, le-leb}
 use Rattle.std.proofs.lemmas.List.{append_cancel_left}
-use Rattle.lock_transforms.specs.Entry.{Entry}
-use Rattle.lock_transforms.specs.declared.entries.Kind.{Kind}
+use Rattle.lock_journal.specs.Names.{Entry, Kind}
 use Rattle.lock_transforms.specs.declared.entries.Kind.TheVariants as kinds
 use Rattle.history_text.specs.Text.{entry_text, numbered, kind_text, effect_text}
 use Rattle.history_text.specs.Fitting.{EntryFits}

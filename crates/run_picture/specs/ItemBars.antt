@@ -1,7 +1,6 @@
 -- The bars of items and fetches.
 use Rattle.std.specs.Prelude.{ℕ, ◌+◌, ◌-◌, Bool, not, ◌&&◌, List, [], ◌++◌, length, codes, decimal, Option, if◌then◌else◌}
-use Rattle.lock_transforms.specs.Entry.{Entry}
-use Rattle.lock_transforms.specs.declared.entries.Kind.{Kind}
+use Rattle.lock_journal.specs.Names.{Entry, Kind}
 use Rattle.run_spans.specs.declared.spans.Span.{Span}
 use Rattle.run_picture.specs.WorkerBars.{bar, room_for, cap_text, fails_within, hued_number}
 use Rattle.picture_layout.specs.Layout.{rows_of}

@@ -3,13 +3,8 @@ use Rattle.std.specs.Prelude.{ℕ, zero, suc, ◌≡◌, ◌≤◌, ◌<◌, ◌
 use Rattle.std.specs.Prelude.{Bool, true, not, ◌&&◌, Some, List, [], ◌∷◌, ◌++◌, length, codes, decimal}
 use Rattle.std.specs.Prelude.{if◌then◌else◌}
 use Rattle.std.specs.List.{list_all}
-use Rattle.resource_lock.specs.GraphView.{GraphView}
-use Rattle.resource_lock.specs.StateView.{StateView, leases_out, holding_of, mark_of, owner_of, has_parked}
-use Rattle.resource_lock.specs.declared.ids.LockId.{LockId}
-use Rattle.resource_lock.specs.declared.ids.WorkerId.{WorkerId}
-use Rattle.resource_lock.specs.declared.marks.Mark.TheVariants.{Running}
-use Rattle.resource_lock.specs.declared.marks.MarkId.TheVariants.{Action as ActionOf}
-use Rattle.lock_transforms.specs.Entry.{Entry, prefix_state}
+use Rattle.lock_journal.specs.Names.{GraphView, StateView, leases_out, holding_of, mark_of, owner_of, has_parked, LockId, WorkerId, Running, ActionOf}
+use Rattle.lock_journal.specs.Names.{Entry, prefix_state}
 use Rattle.history_text.specs.HistoryView.{HistoryView}
 use Rattle.history_text.specs.Text.{numbered}
 use Rattle.run_spans.specs.Levels.{units_queued}

@@ -1,8 +1,7 @@
 -- The bars of the workers' rows, layer by layer.
 use Rattle.std.specs.Prelude.{List, [], ◌++◌, ℕ}
 use Rattle.std.specs.List.{flat_map}
-use Rattle.resource_lock.specs.declared.marks.MarkId.TheVariants.{Task as TaskOf, Action as ActionOf, Unit as UnitOf}
-use Rattle.lock_transforms.specs.Entry.{Entry}
+use Rattle.lock_journal.specs.Names.{TaskOf, ActionOf, UnitOf, Entry}
 use Rattle.run_spans.specs.declared.spans.Span.{Span}
 use Rattle.run_spans.specs.declared.subjects.Subject.{Subject}
 use Rattle.run_spans.specs.declared.subjects.Subject.TheVariants as subjects

@@ -5,8 +5,7 @@ use Rattle.std.specs.Prelude.{take, drop, codes, decimal}
 use Rattle.std.specs.Prelude.{count_by, if◌then◌else◌}
 use Rattle.std.specs.List.{flat_map}
 use Rattle.file_access.specs.SinkView.{SinkView, Wrote, Broke}
-use Rattle.resource_lock.specs.declared.marks.Mark.TheVariants.{Passed, Failed}
-use Rattle.lock_transforms.specs.Entry.{Entry}
+use Rattle.lock_journal.specs.Names.{Passed, Failed, Entry}
 use Rattle.history_text.specs.Text.{numbered}
 use Rattle.history_text.specs.HistoryView.{HistoryView}
 use Rattle.run_spans.specs.Levels.{levels_of, nothing_out}

@@ -1,8 +1,6 @@
 -- A tick for each entry, whose title is the entry's line.
 use Rattle.std.specs.Prelude.{ℕ, ◌+◌, ◌-◌, ◌/◌, ◌%◌, nat_le, max, List, [], ◌++◌, codes, decimal, is_some, if◌then◌else◌}
-use Rattle.lock_transforms.specs.Entry.{Entry}
-use Rattle.lock_transforms.specs.declared.entries.Kind.{Kind}
-use Rattle.lock_transforms.specs.declared.entries.Kind.TheVariants.{Skip}
+use Rattle.lock_journal.specs.Names.{Entry, Kind, Skip}
 use Rattle.history_text.specs.Text.{kind_text, effect_text}
 use Rattle.picture_layout.specs.Layout.{x_of, row_y, rows_of}
 use Rattle.run_picture.specs.Shapes.{number_words, rect_begin}

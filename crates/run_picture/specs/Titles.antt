@@ -1,10 +1,7 @@
 -- What is told where one points at a bar.
 use Rattle.std.specs.Prelude.{ℕ, ◌-◌, nat_lt, Bool, true, false, List, ◌++◌, codes, Option, Some, if◌then◌else◌, option_map}
 use Rattle.std.specs.List.{slice_get}
-use Rattle.resource_lock.specs.declared.marks.Mark.{Mark}
-use Rattle.lock_transforms.specs.Entry.{Entry}
-use Rattle.lock_transforms.specs.declared.entries.Kind.{Kind}
-use Rattle.lock_transforms.specs.declared.entries.Kind.TheVariants.{Close, Block, Unblock}
+use Rattle.lock_journal.specs.Names.{Mark, Entry, Kind, Close, Block, Unblock}
 use Rattle.history_text.specs.Text.{mark_text, outcome_text}
 use Rattle.run_spans.specs.declared.spans.Span.{Span}
 use Rattle.run_picture.specs.Shapes.{number_words}

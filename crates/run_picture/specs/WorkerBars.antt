@@ -2,9 +2,7 @@
 use Rattle.std.specs.Prelude.{ℕ, ◌+◌, ◌-◌, ◌*◌, nat_le, nat_lt, min, max, Bool, ◌&&◌, List, [], ◌++◌}
 use Rattle.std.specs.Prelude.{length, codes, decimal}
 use Rattle.std.specs.Prelude.{if◌then◌else◌}
-use Rattle.resource_lock.specs.Change.{same_mark}
-use Rattle.resource_lock.specs.declared.marks.Mark.{Mark}
-use Rattle.resource_lock.specs.declared.marks.Mark.TheVariants.{Failed}
+use Rattle.lock_journal.specs.Names.{same_mark, Mark, Failed}
 use Rattle.history_text.specs.Text.{mark_text}
 use Rattle.run_spans.specs.declared.spans.Span.{Span}
 use Rattle.picture_layout.specs.Layout.{x_of, row_y, rows_of}

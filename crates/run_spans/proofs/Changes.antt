@@ -3,19 +3,14 @@ use Rattle.std.proofs.Common.{◌≡◌, ℕ, Bool, true, false, ◌||◌, cond,
 use Rattle.std.specs.Prelude.{nat_eq}
 use Rattle.std.proofs.lemmas.Bool.{and_parts, eq-eqb, eqb-true, ne_eqb}
 use Rattle.std.proofs.lemmas.List.{get_or-set_same, get_or-set_other}
-use Rattle.resource_lock.specs.Change.{can, make, holding_after, with_holding, without_last, NamesOnly}
-use Rattle.resource_lock.specs.Good.{Good}
-use Rattle.resource_lock.specs.StateView.{StateView, Holding, empty_holding, holding_of, stands_in, each_once, IsWorkerOf}
-use Rattle.resource_lock.specs.declared.changes.Change.{Change}
-use Rattle.resource_lock.specs.declared.changes.Change.TheVariants.{Lock, Unlock, Take, Give, Move, Park, Unpark, Enter, Leave}
-use Rattle.resource_lock.specs.declared.ids.LockId.{LockId}
-use Rattle.resource_lock.specs.declared.ids.WorkerId.{WorkerId}
-use Rattle.resource_lock.specs.declared.marks.Mark.{Mark}
-use Rattle.resource_lock.specs.declared.marks.Mark.TheVariants.{Waiting, Queued, Running as IsRunning, Passed, Failed, Skipped}
-use Rattle.resource_lock.specs.declared.marks.MarkId.TheVariants.{Task as TaskOf, Action as ActionOf, Unit as UnitOf}
+use Rattle.lock_journal.specs.Names.{can, make, holding_after, without_last, NamesOnly, Good, StateView, Holding, empty_holding, holding_of}
+use Rattle.lock_journal.specs.Names.{stands_in, IsWorkerOf, Change, Lock, Unlock, Take, Give, Move, Unpark, Enter, Leave, LockId, WorkerId, Mark}
+use Rattle.lock_journal.specs.Names.{Waiting, Queued, IsRunning, Passed, Failed, Skipped, TaskOf, ActionOf, UnitOf, names_only}
+use Rattle.resource_lock.specs.Change.{with_holding}
+use Rattle.resource_lock.specs.StateView.{each_once}
+use Rattle.resource_lock.specs.declared.changes.Change.TheVariants.{Park}
 use Rattle.resource_lock.proofs.lemmas.Lists.{get_or-set_cases, each_once-front}
 use Rattle.resource_lock.proofs.lemmas.Undo.{holding_now, last_from, same_worker, same_lock}
-use Rattle.resource_lock.specs.Change.{names_only}
 use Rattle.run_spans.specs.Standing.{holder_in, if_so, runner}
 use Rattle.run_spans.specs.Subjects.{subject_of, begins, is_running}
 use Rattle.run_spans.specs.declared.subjects.Subject.{Subject}

@@ -2,24 +2,14 @@
 use Rattle.std.proofs.Common.{◌≡◌, ℕ, ◌+◌, ◌<◌, ◌^◌, zero, suc, length, get_or, take, not, ◌&&◌, ltb, count_by, replicate, Bool, true, false, List, [], ◌∷◌, Option, None, Some, refl, sym, ap, subst, ◌∙◌, arith}
 use Rattle.std.specs.Prelude.{IfSome}
 use Rattle.std.proofs.lemmas.Bool.{and_parts, ltb-true}
-use Rattle.resource_lock.specs.Change.{can, can_all, make, make_all, holding_after}
-use Rattle.resource_lock.specs.Fits.{Fits}
-use Rattle.resource_lock.specs.GraphView.{GraphView}
-use Rattle.resource_lock.specs.Opening.{opening_of}
-use Rattle.resource_lock.specs.Shape.{BelongsTo}
-use Rattle.resource_lock.specs.StateView.{StateView, Holding, empty_holding, holding_of, leases_out, IsWorkerOf}
-use Rattle.resource_lock.specs.declared.changes.Change.{Change}
-use Rattle.resource_lock.specs.declared.changes.Change.TheVariants.{Lock, Unlock, Take, Give, Move, Park, Unpark, Enter, Leave}
-use Rattle.resource_lock.specs.declared.ids.WorkerId.{WorkerId}
-use Rattle.resource_lock.specs.declared.marks.Mark.{Mark}
-use Rattle.resource_lock.specs.declared.marks.Mark.TheVariants.{Waiting, Queued, Running, Passed, Failed, Skipped}
-use Rattle.resource_lock.specs.declared.marks.MarkId.{MarkId}
-use Rattle.resource_lock.specs.declared.marks.MarkId.TheVariants.{Task as TaskOf, Action as ActionOf, Unit as UnitOf}
+use Rattle.lock_journal.specs.Names.{can, can_all, make, make_all, holding_after, Fits, GraphView, opening_of, BelongsTo, StateView, Holding}
+use Rattle.lock_journal.specs.Names.{empty_holding, holding_of, leases_out, IsWorkerOf, Change, Lock, Unlock, Take, Give, Move, Unpark, Enter, Leave}
+use Rattle.lock_journal.specs.Names.{WorkerId, Mark, Waiting, Queued, Running, Passed, Failed, Skipped, MarkId, TaskOf, ActionOf, UnitOf, Allowed}
+use Rattle.lock_journal.specs.Names.{Finishes, lawful_from, Lawful, Entry, entry, effect, replay_from, prefix_state}
+use Rattle.resource_lock.specs.declared.changes.Change.TheVariants.{Park}
 use Rattle.resource_lock.proofs.lemmas.Kept.{leases-with_holding}
 use Rattle.resource_lock.proofs.lemmas.Lists.{one_if}
 use Rattle.resource_lock.proofs.lemmas.Runs.{belongs_along, belongs_opening, same_shape-make, same_shape-make_all, worker_along, worker_from}
-use Rattle.lock_transforms.specs.Allowed.{Allowed, Finishes, lawful_from, Lawful}
-use Rattle.lock_transforms.specs.Entry.{Entry, entry, effect, replay_from, prefix_state}
 use Rattle.run_spans.specs.Levels.{after_change, after_changes, levels_of, nothing_out}
 use Rattle.run_spans.specs.Steps.{changes_in}
 use Rattle.run_spans.specs.declared.levels.Level.{Level}

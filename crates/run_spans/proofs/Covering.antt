@@ -3,9 +3,7 @@ use Rattle.std.proofs.Common.{◌≡◌, ℕ, ◌+◌, ◌<◌, ◌≤◌, suc, 
 use Rattle.std.specs.Prelude.{nat_eq}
 use Rattle.std.specs.List.{AllByRecursion}
 use Rattle.std.proofs.lemmas.Bool.{eqb-true, eq-eqb}
-use Rattle.resource_lock.specs.declared.ids.WorkerId.{WorkerId}
-use Rattle.resource_lock.specs.declared.changes.Change.{Change}
-use Rattle.lock_transforms.specs.Entry.{Entry}
+use Rattle.lock_journal.specs.Names.{WorkerId, Change, Entry}
 use Rattle.run_spans.specs.Steps.{Step, changes_in, steps_of, steps_from}
 use Rattle.run_spans.specs.Subjects.{begins, key_of}
 use Rattle.run_spans.specs.Spans.{first_saying, step_key, span_with, spans_in, spans_of}

@@ -1,8 +1,6 @@
 -- Each subject has a key of its own.
 use Rattle.std.proofs.Common.{◌≡◌, ℕ, ap, ap₂, arith}
-use Rattle.resource_lock.specs.declared.ids.LockId.{LockId}
-use Rattle.resource_lock.specs.declared.ids.WorkerId.{WorkerId}
-use Rattle.resource_lock.specs.declared.marks.MarkId.TheVariants.{Task as TaskOf, Action as ActionOf, Unit as UnitOf}
+use Rattle.lock_journal.specs.Names.{LockId, WorkerId, TaskOf, ActionOf, UnitOf}
 use Rattle.resource_lock.proofs.lemmas.Undo.{same_worker, same_lock}
 use Rattle.run_spans.specs.Standing.{IsShort}
 use Rattle.run_spans.specs.Subjects.{key_of}

@@ -5,23 +5,14 @@ use Rattle.std.specs.List.{AllByRecursion}
 use Rattle.std.proofs.lemmas.Bool.{and_parts, true≢false}
 use Rattle.std.proofs.lemmas.List.{length-set}
 use Rattle.std.proofs.lemmas.List.Sums.{count_by-le-length}
-use Rattle.resource_lock.specs.Change.{can, can_all, make, make_all, same_mark, names_only, NamesOnly}
-use Rattle.resource_lock.specs.Fits.{Fits}
-use Rattle.resource_lock.specs.GraphView.{GraphView}
-use Rattle.resource_lock.specs.Opening.{opening_of}
-use Rattle.resource_lock.specs.Shape.{BelongsTo}
-use Rattle.resource_lock.specs.StateView.{StateView, mark_of}
-use Rattle.resource_lock.specs.declared.changes.Change.{Change}
-use Rattle.resource_lock.specs.declared.changes.Change.TheVariants.{Lock, Unlock, Take, Give, Move, Park, Unpark, Enter, Leave}
-use Rattle.resource_lock.specs.declared.ids.WorkerId.{WorkerId}
-use Rattle.resource_lock.specs.declared.marks.Mark.{Mark}
-use Rattle.resource_lock.specs.declared.marks.Mark.TheVariants.{Waiting, Queued, Running, Passed, Failed, Skipped}
-use Rattle.resource_lock.specs.declared.marks.MarkId.TheVariants.{Task as TaskOf, Action as ActionOf, Unit as UnitOf}
+use Rattle.lock_journal.specs.Names.{can, can_all, make, make_all, same_mark, names_only, NamesOnly, Fits, GraphView, opening_of, BelongsTo}
+use Rattle.lock_journal.specs.Names.{StateView, mark_of, Change, Lock, Unlock, Take, Give, Move, Unpark, Enter, Leave, WorkerId, Mark, Waiting}
+use Rattle.lock_journal.specs.Names.{Queued, Running, Passed, Failed, Skipped, TaskOf, ActionOf, UnitOf, Allowed, Finishes, lawful_from, Lawful}
+use Rattle.lock_journal.specs.Names.{Entry, entry, effect, replay_from, prefix_state}
+use Rattle.resource_lock.specs.declared.changes.Change.TheVariants.{Park}
 use Rattle.resource_lock.proofs.lemmas.Lists.{count_by-set, one_if}
 use Rattle.resource_lock.proofs.lemmas.Runs.{belongs_along, belongs_opening, same_shape-make, same_shape-make_all, all_named_along}
 use Rattle.resource_lock.proofs.lemmas.Undo.{same_mark_is}
-use Rattle.lock_transforms.specs.Allowed.{Allowed, Finishes, lawful_from, Lawful}
-use Rattle.lock_transforms.specs.Entry.{Entry, entry, effect, replay_from, prefix_state}
 use Rattle.run_spans.specs.Levels.{up, after_change, after_changes, levels_of, nothing_out, units_queued}
 use Rattle.run_spans.specs.Steps.{changes_in}
 use Rattle.run_spans.specs.declared.levels.Level.{Level}

@@ -3,22 +3,14 @@ use Rattle.std.proofs.Common.{◌≡◌, ℕ, ◌+◌, ◌<◌, ◌≤◌, ◌^�
 use Rattle.std.specs.Prelude.{nat_eq, IfSome}
 use Rattle.std.specs.List.{AllByRecursion}
 use Rattle.std.proofs.lemmas.Bool.{and_parts, eq-eqb, eqb-true}
-use Rattle.resource_lock.specs.Change.{can, can_all, make, make_all, NamesOnly}
-use Rattle.resource_lock.specs.Good.{Good}
-use Rattle.resource_lock.specs.GraphView.{GraphView}
-use Rattle.resource_lock.specs.Opening.{opening_of}
-use Rattle.resource_lock.specs.Shape.{BelongsTo}
-use Rattle.resource_lock.specs.StateView.{StateView, Holding, empty_holding, stands_in, IsWorkerOf}
-use Rattle.resource_lock.specs.declared.changes.Change.{Change}
-use Rattle.resource_lock.specs.declared.changes.Change.TheVariants.{Lock, Unlock, Take, Give, Move, Park, Unpark, Enter, Leave}
-use Rattle.resource_lock.specs.declared.ids.WorkerId.{WorkerId}
-use Rattle.resource_lock.specs.declared.marks.Mark.TheVariants.{Waiting}
-use Rattle.resource_lock.specs.declared.marks.MarkId.TheVariants.{Task as TaskOf, Action as ActionOf, Unit as UnitOf}
+use Rattle.lock_journal.specs.Names.{can, can_all, make, make_all, NamesOnly, Good, GraphView, opening_of, BelongsTo, StateView, Holding}
+use Rattle.lock_journal.specs.Names.{empty_holding, stands_in, IsWorkerOf, Change, Lock, Unlock, Take, Give, Move, Unpark, Enter, Leave, WorkerId}
+use Rattle.lock_journal.specs.Names.{Waiting, TaskOf, ActionOf, UnitOf, Allowed, Finishes, lawful_from, Lawful, Entry, entry, effect, replay_from}
+use Rattle.lock_journal.specs.Names.{prefix_state}
+use Rattle.resource_lock.specs.declared.changes.Change.TheVariants.{Park}
 use Rattle.resource_lock.proofs.lemmas.Begins.{good_opening}
 use Rattle.resource_lock.proofs.lemmas.Kept.{kept}
 use Rattle.resource_lock.proofs.lemmas.Runs.{all_named_along, belongs_along, belongs_opening, kept_all, same_shape-make, same_shape-make_all, worker_along, worker_from}
-use Rattle.lock_transforms.specs.Allowed.{Allowed, Finishes, lawful_from, Lawful}
-use Rattle.lock_transforms.specs.Entry.{Entry, entry, effect, replay_from, prefix_state}
 use Rattle.history_text.specs.Fitting.{ChangeFits, ChangesFit, EffectFits, EntryFits, EntriesFit}
 use Rattle.run_spans.specs.Covering.{holder, held_by, holder_after, Covered}
 use Rattle.run_spans.specs.Spans.{step_key, spans_of}

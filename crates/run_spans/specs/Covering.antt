@@ -1,7 +1,6 @@
 -- What holds after an entry, by the steps up to it alone, and which spans cover the entry.
 use Rattle.std.specs.Prelude.{ℕ, ◌≡◌, ◌<◌, ◌≤◌, ◌⊎◌, nat_eq, List, [], ◌∷◌, Option, None, Some, take, if◌then◌else◌}
-use Rattle.resource_lock.specs.declared.ids.WorkerId.{WorkerId}
-use Rattle.lock_transforms.specs.Entry.{Entry}
+use Rattle.lock_journal.specs.Names.{WorkerId, Entry}
 use Rattle.run_spans.specs.Steps.{Step, steps_from}
 use Rattle.run_spans.specs.Subjects.{begins, key_of}
 use Rattle.run_spans.specs.Spans.{step_key}

@@ -1,12 +1,6 @@
 -- How many leases are out and how many units queued after each entry.
 use Rattle.std.specs.Prelude.{ℕ, ◌+◌, ◌-◌, ◌^◌, min, List, [], ◌∷◌, count_by}
-use Rattle.resource_lock.specs.Change.{same_mark}
-use Rattle.resource_lock.specs.StateView.{StateView}
-use Rattle.resource_lock.specs.declared.marks.Mark.TheVariants.{Queued}
-use Rattle.resource_lock.specs.declared.marks.MarkId.TheVariants.{Unit as UnitOf}
-use Rattle.resource_lock.specs.declared.changes.Change.{Change}
-use Rattle.resource_lock.specs.declared.changes.Change.TheVariants.{Take, Give, Move}
-use Rattle.lock_transforms.specs.Entry.{Entry}
+use Rattle.lock_journal.specs.Names.{same_mark, StateView, Queued, UnitOf, Change, Take, Give, Move, Entry}
 use Rattle.run_spans.specs.Steps.{changes_in}
 use Rattle.run_spans.specs.declared.levels.Level.{Level}
 

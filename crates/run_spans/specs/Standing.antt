@@ -1,10 +1,6 @@
 -- For whom a subject holds in a state.
 use Rattle.std.specs.Prelude.{ℕ, ◌<◌, ◌^◌, Bool, true, false, Option, None, Some}
-use Rattle.resource_lock.specs.StateView.{StateView, holding_of, owner_of, mark_of, has_parked}
-use Rattle.resource_lock.specs.declared.ids.WorkerId.{WorkerId}
-use Rattle.resource_lock.specs.declared.marks.Mark.{Mark}
-use Rattle.resource_lock.specs.declared.marks.Mark.TheVariants.{Running as IsRunning}
-use Rattle.resource_lock.specs.declared.marks.MarkId.TheVariants.{Task as TaskOf, Action as ActionOf, Unit as UnitOf}
+use Rattle.lock_journal.specs.Names.{StateView, holding_of, owner_of, mark_of, has_parked, WorkerId, Mark, IsRunning, TaskOf, ActionOf, UnitOf}
 use Rattle.run_spans.specs.declared.subjects.Subject.{Subject}
 use Rattle.run_spans.specs.declared.subjects.Subject.TheVariants.{Lease, Blocked, Owned, Parked, Running}
 

@@ -1,8 +1,6 @@
 -- The steps of a history: each change of its entries in order, with the number of its entry and the worker.
 use Rattle.std.specs.Prelude.{ℕ, ◌+◌, List, [], ◌∷◌, ◌++◌, Option, None, Some}
-use Rattle.resource_lock.specs.declared.ids.WorkerId.{WorkerId}
-use Rattle.resource_lock.specs.declared.changes.Change.{Change}
-use Rattle.lock_transforms.specs.Entry.{Entry}
+use Rattle.lock_journal.specs.Names.{WorkerId, Change, Entry}
 
 pub record Step : Type 0 where
   pub entry : ℕ

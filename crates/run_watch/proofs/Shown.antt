@@ -4,12 +4,8 @@ use Rattle.std.specs.List.{All}
 use Rattle.std.proofs.lemmas.List.{take-append-le, take_all, get_or-replicate, length-replicate}
 use Rattle.std.proofs.lemmas.List.Elements.{All-weaker}
 use mathlib.Core.List.{IsPrefix}
-use Rattle.resource_lock.specs.GraphView.{GraphView}
-use Rattle.resource_lock.specs.declared.ids.WorkerId.{WorkerId}
+use Rattle.lock_journal.specs.Names.{GraphView, WorkerId, leases_out, Entry, prefix_state, replay, BookView}
 use Rattle.coordination.specs.WorkerEntries.{last_in, last_of}
-use Rattle.resource_lock.specs.StateView.{leases_out}
-use Rattle.lock_transforms.specs.Entry.{Entry, prefix_state, replay}
-use Rattle.lock_journal.specs.BookView.{BookView}
 use Rattle.history_views.specs.Growing.{IsLater}
 use Rattle.history_views.specs.declared.views.Extent.{Extent}
 use Rattle.run_watch.specs.Looks.{AreLooksAt, IsBoardOf, IsRoomFor, MayShow, WasSeenIn}

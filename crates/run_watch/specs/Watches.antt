@@ -1,12 +1,7 @@
 -- What was seen of a run, against its book.
 use Rattle.std.specs.Prelude.{ℕ, zero, suc, ◌≡◌, ◌==◌, ◌≤◌, if◌then◌else◌, Bool, false, List, [], ◌∷◌, ◌++◌, Option, None, Some, length, map}
 use Rattle.std.specs.List.{All}
-use Rattle.resource_lock.specs.StateView.{leases_out}
-use Rattle.resource_lock.specs.declared.changes.Change.{Change}
-use Rattle.lock_transforms.specs.Entry.{Entry, prefix_state}
-use Rattle.lock_transforms.specs.declared.entries.Kind.{Kind}
-use Rattle.lock_transforms.specs.declared.entries.Kind.TheVariants.{Close}
-use Rattle.lock_journal.specs.BookView.{BookView}
+use Rattle.lock_journal.specs.Names.{leases_out, Change, Entry, prefix_state, Kind, Close, BookView}
 use Rattle.run_watch.specs.declared.boards.Watch.{Watch}
 
 -- the item that an entry of this kind closed, if it made its changes

@@ -2,8 +2,7 @@
 use Rattle.std.proofs.Common.{◌≡◌, ◌<◌, ℕ, List, length, get_or, map, Option, sym, ◌∙◌, arith}
 use Rattle.std.specs.List.{All}
 use Rattle.item_actions.specs.Files.{Folder}
-use Rattle.coordination.specs.Passes.{CoordinationView, PassView}
-use Rattle.coordination.specs.Sights.{workers_from}
+use Rattle.coordination.specs.Names.{CoordinationView, PassView, workers_from}
 use Rattle.coordination.proofs.lemmas.Numbered.{element, same_numbers}
 use Rattle.shared_services.specs.Team.{HasComeBack}
 

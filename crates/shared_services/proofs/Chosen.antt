@@ -2,14 +2,10 @@
 use Rattle.std.proofs.Common.{◌≡◌, ◌<◌, ◌≤◌, ◌+◌, ℕ, zero, suc, Bool, true, false, not, cond, ◌&&◌, ◌||◌, List, [], ◌∷◌, ◌++◌, length, get_or, map, nat_eq, nat_lt, None, Option, refl, sym, ap, ◌∙◌, arith}
 use Rattle.std.specs.List.{filter, list_all, list_any}
 use Rattle.std.proofs.lemmas.Bool.{and_from, and_parts, eqb-true, false≢true, le-leb, lt-ltb, ltb-false}
-use Rattle.resource_lock.specs.GraphView.{GraphView}
-use Rattle.resource_lock.specs.StateView.{StateView, all_owner, holding_of, is_all, is_other, is_owner, leases_out, names_lock, owner_if, owner_of, owns, runs_any, stands_in}
-use Rattle.resource_lock.specs.Trying.{can_lease, can_own}
-use Rattle.resource_lock.specs.declared.changes.Change.TheVariants.{Lock, Take}
-use Rattle.resource_lock.specs.declared.ids.LockId.{LockId}
-use Rattle.resource_lock.specs.declared.ids.WorkerId.{WorkerId}
-use Rattle.lock_transforms.specs.Table.{condition}
-use Rattle.lock_transforms.specs.Taking.{acquired, can_take_all, is_open, may_acquire, rises}
+use Rattle.lock_journal.specs.Names.{GraphView, StateView, holding_of, is_owner, leases_out, owner_of, owns, runs_any, stands_in, can_lease, Lock}
+use Rattle.lock_journal.specs.Names.{Take, LockId, WorkerId, condition, acquired, can_take_all, is_open, may_acquire, rises}
+use Rattle.resource_lock.specs.StateView.{all_owner, is_all, is_other, names_lock, owner_if}
+use Rattle.resource_lock.specs.Trying.{can_own}
 use Rattle.lock_transforms.specs.declared.entries.Kind.TheVariants as kinds
 use Rattle.shared_services.specs.Services.{AreLowestFree, AreOneOfEach, AreServices, IsLockOfService, lock_count, no_lock}
 use Rattle.shared_services.specs.Takings.{has_nothing, taken}

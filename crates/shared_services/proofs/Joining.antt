@@ -2,9 +2,7 @@
 use Rattle.std.proofs.Common.{◌≡◌, ◌≢◌, ◌<◌, ◌≤◌, ◌+◌, ℕ, zero, suc, ne_eqb, List, [], ◌∷◌, ◌++◌, length, get_or, drop, Some, refl, sym, ap, ◌∙◌, subst, arith}
 use Rattle.std.specs.List.{AllByRecursion, flat_map}
 use Rattle.std.proofs.Math.Seq.{drop-length}
-use Rattle.resource_lock.specs.declared.ids.WorkerId.{WorkerId}
-use Rattle.lock_transforms.specs.Entry.{Entry, entry}
-use Rattle.lock_transforms.specs.declared.entries.Kind.TheVariants.{Acquire, HandBack}
+use Rattle.lock_journal.specs.Names.{WorkerId, Entry, entry, Acquire, HandBack}
 use Rattle.shared_services.specs.Takings.{taken}
 use Rattle.shared_services.specs.Done.{AreApart, IsRunIn, faults_of, given_back}
 use Rattle.shared_services.specs.OneByOne.{OneByOne}

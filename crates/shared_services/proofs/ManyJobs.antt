@@ -7,9 +7,7 @@ use Rattle.item_actions.specs.Value.{is_fault}
 use Rattle.item_actions.specs.declared.outcomes.Outcome.{Outcome}
 use Rattle.item_actions.specs.declared.outcomes.Outcome.TheVariants.{Digest, Fault, NoMemory, NotThere, Number, Skipped, TooLong}
 use Rattle.file_access.specs.SinkView.{Rises}
-use Rattle.resource_lock.specs.declared.ids.WorkerId.{WorkerId}
-use Rattle.lock_transforms.specs.Entry.{Entry, entry}
-use Rattle.lock_transforms.specs.declared.entries.Kind.TheVariants.{Acquire, HandBack}
+use Rattle.lock_journal.specs.Names.{WorkerId, Entry, entry, Acquire, HandBack}
 use Rattle.coordination.specs.declared.rule.Sight.{Sight}
 use Rattle.shared_services.specs.Services.{AreServices}
 use Rattle.shared_services.specs.Takings.{taken}

@@ -1,7 +1,6 @@
 -- A graph without tasks fits.
 use Rattle.std.proofs.Common.{◌≤◌, ℕ, [], None, refl, arith}
-use Rattle.resource_lock.specs.Fits.{Fits}
-use Rattle.resource_lock.specs.Made.{made_of}
+use Rattle.lock_journal.specs.Names.{Fits, made_of}
 use Rattle.resource_lock.specs.declared.limits.TheConstants.{MAX_LEASES, MAX_LOCKS, MAX_WORKERS}
 
 pub no_tasks_fit : (locks workers most : ℕ) → locks ≤ MAX_LOCKS → 1 ≤ workers → workers ≤ MAX_WORKERS → 1 ≤ most → most ≤ MAX_LEASES → Fits (made_of locks None workers most [] [])

@@ -2,23 +2,9 @@
 use Rattle.std.proofs.Common.{◌≡◌, ◌<◌, ◌≤◌, ◌+◌, ℕ, true, cond, eqb, List, [], ◌∷◌, ◌++◌, length, map, Some, eq-eqb, refl, sym, ap, ◌∙◌, subst, arith}
 use Rattle.std.proofs.lemmas.List.{append_assoc, length-append}
 use Rattle.std.proofs.lemmas.List.Sums.{sum_by-append}
-use Rattle.resource_lock.specs.GraphView.{GraphView}
-use Rattle.resource_lock.specs.StateView.{Holding, StateView, holding_of}
-use Rattle.resource_lock.specs.declared.changes.Change.TheVariants.{Give, Unlock}
-use Rattle.resource_lock.specs.declared.ids.LockId.{LockId}
-use Rattle.resource_lock.specs.declared.ids.WorkerId.{WorkerId}
-use Rattle.lock_journal.specs.BookView.{BookView}
-use Rattle.lock_transforms.specs.Allowed.{Lawful}
-use Rattle.lock_transforms.specs.Entry.{Entry, entry, replay}
-use Rattle.lock_transforms.specs.Table.{owned}
-use Rattle.lock_transforms.specs.declared.entries.Kind.{Kind}
-use Rattle.lock_transforms.specs.declared.entries.Kind.TheVariants.{Acquire, HandBack}
-use Rattle.lock_journal.specs.Own.{NoneOf}
-use Rattle.coordination.specs.Agrees.{IsSoundBook}
-use Rattle.coordination.specs.Attempts.{Making}
-use Rattle.coordination.specs.Calls.{HasFinished}
-use Rattle.coordination.specs.Holds.{HoldsNothing}
-use Rattle.coordination.specs.WorkerEntries.{entry_count_of, last_of}
+use Rattle.lock_journal.specs.Names.{GraphView, Holding, StateView, holding_of, Give, Unlock, LockId, WorkerId, BookView, Lawful, Entry, entry}
+use Rattle.lock_journal.specs.Names.{replay, owned, Kind, Acquire, HandBack, NoneOf}
+use Rattle.coordination.specs.Names.{IsSoundBook, Making, HasFinished, HoldsNothing, entry_count_of, last_of}
 use Rattle.coordination.specs.declared.rule.Sight.{Sight}
 use Rattle.coordination.proofs.lemmas.Growing.{last_of-own}
 use Rattle.shared_services.specs.Services.{AreOneOfEach, AreServices}

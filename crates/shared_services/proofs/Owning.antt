@@ -2,11 +2,8 @@
 use Rattle.std.proofs.Common.{◌≡◌, ◌<◌, ◌≤◌, ◌+◌, ◌⊎◌, ℕ, zero, suc, Bool, true, false, cond, List, [], ◌∷◌, length, get_or, Option, None, inl, inr, sym, ap, ◌∙◌, subst, arith}
 use Rattle.std.proofs.lemmas.Bool.{cases_lt, false≢true}
 use Rattle.std.proofs.lemmas.List.{get_or_past}
-use Rattle.resource_lock.specs.StateView.{StateView, is_owner, owner_of}
-use Rattle.resource_lock.specs.declared.ids.LockId.{LockId}
-use Rattle.resource_lock.specs.declared.ids.WorkerId.{WorkerId}
+use Rattle.lock_journal.specs.Names.{StateView, is_owner, owner_of, LockId, WorkerId, owned, owned_from}
 use Rattle.resource_lock.proofs.lemmas.Undo.{owner_from, same_lock}
-use Rattle.lock_transforms.specs.Table.{owned, owned_from}
 use Rattle.coordination.proofs.lemmas.Nothing.{owns_none}
 use Rattle.shared_services.specs.Services.{AreOneOfEach, AreServices, IsLockOfService, maximum_of, no_lock}
 use Rattle.shared_services.proofs.lemmas.Places.{ends_before}

@@ -3,15 +3,9 @@ use Rattle.std.proofs.Common.{◌≡◌, ◌<◌, ◌≤◌, ◌+◌, ◌-◌, �
 use Rattle.std.proofs.Math.Seq.{take-append-add, take-length}
 use Rattle.std.proofs.lemmas.Bool.{cases_lt}
 use Rattle.std.proofs.lemmas.List.{append_assoc, take-append-drop, take-append-le}
-use Rattle.resource_lock.specs.GraphView.{GraphView}
-use Rattle.resource_lock.specs.declared.ids.WorkerId.{WorkerId}
-use Rattle.lock_transforms.specs.Allowed.{Lawful}
-use Rattle.lock_transforms.specs.Entry.{Entry, prefix_state, replay}
-use Rattle.lock_journal.specs.Own.{NoneOf, SameFor}
+use Rattle.lock_journal.specs.Names.{GraphView, WorkerId, Lawful, Entry, prefix_state, replay, NoneOf, SameFor, opening_of, StateView}
 use Rattle.lock_journal.proofs.lemmas.Growing.{lawful-front, same_by_own}
 use Rattle.shared_services.specs.Done.{OwnsOneOfEach}
-use Rattle.resource_lock.specs.Opening.{opening_of}
-use Rattle.resource_lock.specs.StateView.{StateView}
 use Rattle.coordination.specs.Holds.{HoldsNothing}
 use Rattle.coordination.specs.declared.rule.Sight.{Sight}
 use Rattle.shared_services.specs.Takings.{HasTheLocks}

@@ -3,20 +3,11 @@ use Rattle.std.proofs.Common.{◌≡◌, ◌<◌, ◌≤◌, ◌+◌, ◌⊎◌,
 use Rattle.std.proofs.Common.{inl, inr, refl, sym, ap, ◌∙◌, arith}
 use Rattle.std.proofs.lemmas.Bool.{and_parts, false≢true, leb-true, lt-ltb}
 use Rattle.std.proofs.lemmas.List.{append-nil, append_assoc}
-use Rattle.resource_lock.specs.Change.{holding_after}
-use Rattle.resource_lock.specs.GraphView.{GraphView}
-use Rattle.resource_lock.specs.StateView.{Holding, empty_holding, holding_of, runs_any}
-use Rattle.resource_lock.specs.declared.ids.LockId.{LockId}
-use Rattle.resource_lock.specs.declared.ids.WorkerId.{WorkerId}
-use Rattle.resource_lock.specs.declared.marks.MarkId.{MarkId}
-use Rattle.lock_transforms.specs.Taking.{rises}
+use Rattle.lock_journal.specs.Names.{holding_after, GraphView, Holding, empty_holding, holding_of, runs_any, LockId, WorkerId, MarkId, rises}
+use Rattle.lock_journal.specs.Names.{BookView, claimed, after_all, claimed_after, lock_before, locks_after, with_member}
 use Rattle.lock_transforms.specs.declared.entries.Kind.TheVariants as kinds
-use Rattle.lock_journal.specs.BookView.{BookView}
-use Rattle.lock_journal.specs.Own.{claimed}
-use Rattle.lock_journal.specs.OwnChanges.{after_all, claimed_after, lock_before, locks_after, with_member}
 use Rattle.lock_journal.proofs.lemmas.Claims.{runs_nothing}
-use Rattle.coordination.specs.Agrees.{Finds}
-use Rattle.coordination.specs.Calls.{HasFinished, WasStopped}
+use Rattle.coordination.specs.Names.{Finds, HasFinished, WasStopped}
 use Rattle.coordination.specs.declared.rule.Sight.{Sight}
 use Rattle.coordination.proofs.lemmas.Shown.{shows_left, stopped_for}
 use Rattle.shared_services.specs.Services.{no_lock}

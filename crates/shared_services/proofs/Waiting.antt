@@ -6,17 +6,12 @@ use Rattle.resource_lock.proofs.lemmas.Kept.{leases-with_holding}
 use Rattle.resource_lock.proofs.lemmas.Lists.{get_or-set_cases}
 use Rattle.resource_lock.proofs.lemmas.Others as others
 use Rattle.resource_lock.proofs.lemmas.Runs.{same_shape-make}
-use Rattle.resource_lock.specs.Change.{can, holding_after, make}
-use Rattle.resource_lock.specs.Shape.{SameShape}
-use Rattle.resource_lock.specs.StateView.{IsWorkerOf, StateView, holding_of, is_parked, leases_out, owner_of, runs_by, runs_task, runs_unit}
-use Rattle.resource_lock.specs.declared.changes.Change.{Change}
-use Rattle.resource_lock.specs.declared.changes.Change.TheVariants.{Enter, Give, Leave, Lock, Move, Park, Take, Unlock, Unpark}
-use Rattle.resource_lock.specs.declared.ids.LockId.{LockId}
-use Rattle.resource_lock.specs.declared.ids.WorkerId.{WorkerId}
-use Rattle.resource_lock.specs.declared.marks.Mark.TheVariants.{Waiting}
-use Rattle.resource_lock.specs.declared.marks.MarkId.TheVariants.{Action as ActionOf, Task as TaskOf, Unit as UnitOf}
+use Rattle.lock_journal.specs.Names.{can, holding_after, make, SameShape, IsWorkerOf, StateView, holding_of, is_parked, leases_out, owner_of, runs_by}
+use Rattle.lock_journal.specs.Names.{runs_task, runs_unit, Change, Enter, Give, Leave, Lock, Move, Take, Unlock, Unpark, LockId, WorkerId, Waiting}
+use Rattle.lock_journal.specs.Names.{ActionOf, TaskOf, UnitOf, lets_go_on}
+use Rattle.resource_lock.specs.declared.changes.Change.TheVariants.{Park}
 use Rattle.lock_transforms.proofs.lemmas.Disabled.{any_same}
-use Rattle.lock_transforms.specs.GoingOn.{WaitsForNews, lets_go_on}
+use Rattle.lock_transforms.specs.GoingOn.{WaitsForNews}
 use Rattle.shared_services.specs.Services.{IsFull}
 use Rattle.shared_services.specs.Takings.{IsShort, MayNotTake, has_nothing}
 

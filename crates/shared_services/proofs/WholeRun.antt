@@ -7,21 +7,11 @@ use Rattle.std.proofs.lemmas.Bool.{cases_lt}
 use Rattle.std.proofs.lemmas.List.{length-append, take-append-drop}
 use Rattle.std.proofs.lemmas.List.Sums.{sum_by-cons}
 use Rattle.item_actions.specs.Files.{Folder}
-use Rattle.resource_lock.specs.AtRest.{IsAtRest}
-use Rattle.resource_lock.specs.GraphView.{GraphView}
-use Rattle.resource_lock.specs.Made.{made_of}
-use Rattle.resource_lock.specs.declared.ids.WorkerId.{WorkerId}
+use Rattle.lock_journal.specs.Names.{IsAtRest, GraphView, made_of, WorkerId, Lawful, Entry, prefix_state, BookView}
 use Rattle.resource_lock.proofs.lemmas.Undo.{owner_from}
-use Rattle.lock_transforms.specs.Allowed.{Lawful}
-use Rattle.lock_transforms.specs.Entry.{Entry, prefix_state}
-use Rattle.lock_journal.specs.BookView.{BookView}
 use Rattle.lock_journal.proofs.lemmas.Growing.{lawful-front}
 use Rattle.lock_journal.proofs.lemmas.Named.{named}
-use Rattle.coordination.specs.Agrees.{Agrees, IsSoundBook}
-use Rattle.coordination.specs.Holds.{HoldsNothing}
-use Rattle.coordination.specs.WorkerEntries.{entry_count_of}
-use Rattle.coordination.specs.Passes.{PassView}
-use Rattle.coordination.specs.Sights.{workers_from}
+use Rattle.coordination.specs.Names.{Agrees, IsSoundBook, HoldsNothing, entry_count_of, PassView, workers_from}
 use Rattle.coordination.specs.Together.{ComeTo, entries_of}
 use Rattle.coordination.specs.declared.rule.Sight.{Sight}
 use Rattle.coordination.proofs.lemmas.Numbered.{element, passes_count, worker_at}

@@ -4,14 +4,7 @@ use Rattle.std.specs.Prelude.{if◌then◌else◌, IfSome, true}
 use Rattle.std.specs.List.{AllByRecursion}
 use Rattle.item_actions.specs.Files.{Folder}
 use Rattle.item_actions.specs.Value.{IsHonest, is_fault, value_on}
-use Rattle.resource_lock.specs.StateView.{StateView, owns}
-use Rattle.resource_lock.specs.declared.changes.Change.{Change}
-use Rattle.resource_lock.specs.declared.changes.Change.TheVariants.{Give, Unlock}
-use Rattle.resource_lock.specs.declared.ids.LockId.{LockId}
-use Rattle.resource_lock.specs.declared.ids.WorkerId.{WorkerId}
-use Rattle.lock_transforms.specs.Entry.{Entry, entry}
-use Rattle.lock_transforms.specs.declared.entries.Kind.TheVariants.{Acquire, HandBack}
-use Rattle.lock_journal.specs.Own.{NoneOf}
+use Rattle.lock_journal.specs.Names.{StateView, owns, Change, Give, Unlock, LockId, WorkerId, Entry, entry, Acquire, HandBack, NoneOf}
 use Rattle.shared_services.specs.Services.{AreOneOfEach, IsLockOfService}
 use Rattle.shared_services.specs.Takings.{taken}
 use Rattle.shared_services.specs.declared.jobs.Job.{Job}

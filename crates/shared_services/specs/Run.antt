@@ -1,12 +1,6 @@
 -- A run of jobs, by its history.
 use Rattle.std.specs.Prelude.{ℕ, ◌≡◌, ◌<◌, ◌≤◌, ◌*◌, List, [], None, length}
-use Rattle.resource_lock.specs.AtRest.{IsAtRest}
-use Rattle.resource_lock.specs.Made.{made_of}
-use Rattle.resource_lock.specs.StateView.{StateView}
-use Rattle.resource_lock.specs.declared.ids.WorkerId.{WorkerId}
-use Rattle.lock_transforms.specs.Allowed.{Lawful}
-use Rattle.lock_transforms.specs.Entry.{prefix_state, replay}
-use Rattle.lock_journal.specs.BookView.{BookView}
+use Rattle.lock_journal.specs.Names.{IsAtRest, made_of, StateView, WorkerId, Lawful, prefix_state, replay, BookView}
 use Rattle.shared_services.specs.Services.{lock_count, maximum_of, uses}
 use Rattle.shared_services.specs.OneByOne.{OneByOne}
 use Rattle.shared_services.specs.Done.{AreApart, IsRunIn, OwnsOneOfEach}

@@ -2,10 +2,7 @@
 use Rattle.std.specs.Prelude.{ℕ, ◌≡◌, ◌≢◌, ◌<◌, ◌≤◌, ◌+◌, List, [], ◌∷◌, length, take, sum, slice_index_or, slice_range}
 use Rattle.std.specs.Prelude.{Option, None, Some, Bool, false, not, if◌then◌else◌}
 use Rattle.std.specs.List.{All, list_any}
-use Rattle.resource_lock.specs.Ranges.{IsIn}
-use Rattle.resource_lock.specs.StateView.{StateView, is_owner, owner_of}
-use Rattle.resource_lock.specs.declared.ids.LockId.{LockId}
-use Rattle.resource_lock.specs.declared.ids.WorkerId.{WorkerId}
+use Rattle.lock_journal.specs.Names.{IsIn, StateView, is_owner, owner_of, LockId, WorkerId}
 use Rattle.shared_services.specs.declared.services.TheConstants.{MAX_SERVICES, MAX_USES}
 
 -- 1 to 64 services, each with a maximum of 1 to 32

@@ -1,9 +1,7 @@
 -- What a pass shows before and after its uses are taken.
 use Rattle.std.specs.Prelude.{ℕ, true, List, []}
 use Rattle.lock_transforms.specs.declared.entries.Kind.TheVariants as kinds
-use Rattle.coordination.specs.Calls.{HasFinished}
-use Rattle.coordination.specs.Holds.{HoldsNothing}
-use Rattle.coordination.specs.Shown.{Shows}
+use Rattle.coordination.specs.Names.{HasFinished, HoldsNothing, Shows}
 use Rattle.coordination.specs.declared.rule.Sight.{Sight}
 use Rattle.shared_services.specs.Services.{AreServices}
 use Rattle.shared_services.specs.Takings.{HasTheLocks, TakesUses}

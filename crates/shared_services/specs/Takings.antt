@@ -1,12 +1,7 @@
 -- The taking of uses: which changes it makes, and where it can't be done.
 use Rattle.std.specs.Prelude.{ℕ, ◌≡◌, ◌≤◌, ◌⊎◌, ◌==◌, Bool, false, not, ◌&&◌, List, [], ◌∷◌, ◌++◌, length, map, None}
 use Rattle.std.specs.List.{Any}
-use Rattle.resource_lock.specs.GraphView.{GraphView}
-use Rattle.resource_lock.specs.StateView.{StateView, holding_of, leases_out, runs_any}
-use Rattle.resource_lock.specs.declared.changes.Change.{Change}
-use Rattle.resource_lock.specs.declared.changes.Change.TheVariants.{Lock, Take}
-use Rattle.resource_lock.specs.declared.ids.LockId.{LockId}
-use Rattle.resource_lock.specs.declared.ids.WorkerId.{WorkerId}
+use Rattle.lock_journal.specs.Names.{GraphView, StateView, holding_of, leases_out, runs_any, Change, Lock, Take, LockId, WorkerId}
 use Rattle.shared_services.specs.Services.{AreLowestFree, IsFull, lock_count}
 
 -- these locks and a lease

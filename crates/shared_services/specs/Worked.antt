@@ -2,15 +2,9 @@
 use Rattle.std.specs.Prelude.{ℕ, ◌≡◌, ◌≤◌, ◌<◌, ◌+◌, ◌-◌, ◌*◌, ◌^◌, List, length, get_or, take, Option}
 use Rattle.std.specs.List.{AllByRecursion}
 use Rattle.item_actions.specs.Files.{Folder}
-use Rattle.lock_transforms.specs.Allowed.{IsFixedList}
-use Rattle.lock_transforms.specs.Entry.{Entry, prefix_state}
+use Rattle.lock_journal.specs.Names.{IsFixedList, Entry, prefix_state, GraphView, WorkerId}
 use Rattle.lock_transforms.specs.declared.entries.Kind.TheVariants as kinds
-use Rattle.resource_lock.specs.GraphView.{GraphView}
-use Rattle.resource_lock.specs.declared.ids.WorkerId.{WorkerId}
-use Rattle.coordination.specs.Agrees.{IsSoundBook}
-use Rattle.coordination.specs.Calls.{HasFinished, WasStopped}
-use Rattle.coordination.specs.Holds.{HoldsNothing}
-use Rattle.coordination.specs.WorkerEntries.{entry_count_of, last_of}
+use Rattle.coordination.specs.Names.{IsSoundBook, HasFinished, WasStopped, HoldsNothing, entry_count_of, last_of}
 use Rattle.coordination.specs.declared.rule.Sight.{Sight}
 use Rattle.lease_service.specs.Shows.{ShowsGivenBack}
 use Rattle.shared_services.specs.Shows.{HasTakenUses}

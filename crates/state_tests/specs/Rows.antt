@@ -1,8 +1,6 @@
 -- Graphs by rows of numbers.
 use Rattle.std.specs.Prelude.{ℕ, List, [], ◌∷◌, Option, None, Some, map, sum_by}
-use Rattle.resource_lock.specs.GraphView.{GraphTaskView, GraphView}
-use Rattle.resource_lock.specs.Ranges.{units_in}
-use Rattle.resource_lock.specs.declared.graphs.GraphAction.{GraphAction}
+use Rattle.lock_journal.specs.Names.{GraphTaskView, GraphView, units_in, GraphAction}
 use Rattle.state_tests.specs.declared.rows.Limits.{Limits}
 use Rattle.state_tests.specs.declared.rows.TaskRow.{TaskRow}
 

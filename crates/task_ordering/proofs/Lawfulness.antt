@@ -3,13 +3,7 @@ use Rattle.std.proofs.Common.{◌≡◌, ◌+◌, ◌≤◌, ℕ, List, [], ◌�
 use Rattle.std.specs.Prelude.{slice_get}
 use Rattle.std.proofs.lemmas.List.{take_all, take_more}
 use Rattle.std.proofs.lemmas.Option.{slice_get_within, get_or_from_slice_get}
-use Rattle.resource_lock.specs.GraphView.{GraphView}
-use Rattle.resource_lock.specs.StateView.{StateView}
-use Rattle.lock_transforms.specs.Allowed.{Allowed, Lawful}
-use Rattle.lock_transforms.specs.Entry.{Entry, entry, replay}
-use Rattle.lock_journal.specs.Admitting.{HasAdmitted, IsRefused}
-use Rattle.lock_journal.specs.BookView.{BookView}
-use Rattle.lock_journal.specs.Changes.{changes_left}
+use Rattle.lock_journal.specs.Names.{GraphView, StateView, Allowed, Lawful, Entry, entry, replay, HasAdmitted, IsRefused, BookView, changes_left}
 use Rattle.lock_journal.specs.Shown.{entry_shown}
 use Rattle.lock_journal.specs.declared.shown_entries.Shown.{Shown}
 use Rattle.task_ordering.specs.Entries.{IsFirstUnlawful}

@@ -1,9 +1,7 @@
 -- Whether the entries of a history keep what stands before what.
 use Rattle.std.specs.Prelude.{ℕ, ◌≡◌, ◌+◌, Bool, false, List, Option, Some, None, take, slice_get, slice_index_or, is_some}
 use Rattle.std.specs.Prelude.{if◌then◌else◌, Contains}
-use Rattle.lock_transforms.specs.Entry.{Entry}
-use Rattle.lock_transforms.specs.declared.entries.Kind.{Kind}
-use Rattle.lock_transforms.specs.declared.entries.Kind.TheVariants.{Start, Skip, End}
+use Rattle.lock_journal.specs.Names.{Entry, Kind, Start, Skip, End}
 use Rattle.ready_work.specs.Lowest.{IsLowest, IsNone}
 use Rattle.ready_work.specs.Rank.{Dependencies}
 use Rattle.task_ordering.specs.Befores.{IsListedBefore}

@@ -1,8 +1,6 @@
 -- Entries that needn't be lawful, and the first that isn't.
 use Rattle.std.specs.Prelude.{ℕ, ◌≡◌, ◌+◌, List, Option, None, Some, option_map, slice_get, take}
-use Rattle.resource_lock.specs.GraphView.{GraphView}
-use Rattle.lock_transforms.specs.Allowed.{Allowed, Lawful}
-use Rattle.lock_transforms.specs.Entry.{Entry, entry, replay}
+use Rattle.lock_journal.specs.Names.{GraphView, Allowed, Lawful, Entry, entry, replay}
 use Rattle.task_ordering.specs.declared.given_entries.GivenEntry.{GivenEntry}
 
 abbrev pub entry_given : GivenEntry → Entry

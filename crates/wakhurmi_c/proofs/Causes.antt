@@ -4,24 +4,13 @@ use Rattle.std.specs.Prelude.{nat_lt}
 use Rattle.std.specs.List.{list_all, list_any}
 use Rattle.std.proofs.lemmas.Bool.{and_from, and_parts, eqb-true, false≢true, false_from_ne_true, or_cases, or_right}
 use Rattle.std.proofs.lemmas.List.{nil_from_length}
-use Rattle.resource_lock.specs.GraphView.{GraphView}
-use Rattle.resource_lock.specs.Made.{made_of}
-use Rattle.resource_lock.specs.StateView.{Holding, StateView, holding_of, is_owner, owns_any, runs_any, runs_by, runs_unit, stands_in}
-use Rattle.resource_lock.specs.declared.ids.LockId.{LockId}
-use Rattle.resource_lock.specs.declared.ids.WorkerId.{WorkerId}
-use Rattle.lock_transforms.specs.Allowed.{IsDisabled, IsFixedList, IsUnmet}
+use Rattle.lock_journal.specs.Names.{GraphView, made_of, Holding, StateView, holding_of, is_owner, owns_any, runs_any, runs_by, runs_unit, stands_in}
+use Rattle.lock_journal.specs.Names.{LockId, WorkerId, IsDisabled, IsFixedList, IsUnmet, condition, owned_from, acquired, can_take_all, is_open}
+use Rattle.lock_journal.specs.Names.{may_acquire, rises, Kind, Shortage, Waits, Fails, BookView}
 use Rattle.resource_lock.proofs.lemmas.Runs.{worker_from}
-use Rattle.lock_transforms.specs.Table.{condition, owned_from}
-use Rattle.lock_transforms.specs.Taking.{acquired, can_take_all, is_open, may_acquire, rises}
-use Rattle.lock_transforms.specs.declared.entries.Kind.{Kind}
 use Rattle.lock_transforms.specs.declared.entries.Kind.TheVariants as kinds
-use Rattle.lock_transforms.specs.declared.kinds.acquires.Shortage.{Shortage}
-use Rattle.lock_transforms.specs.declared.kinds.acquires.Shortage.TheVariants.{Waits, Fails}
-use Rattle.lock_journal.specs.BookView.{BookView}
+use Rattle.coordination.specs.Names.{Finds, Cause, Making, blocked_shown, lease_shown, locks_shown, parked_shown}
 use Rattle.coordination.specs.declared.rule.Sight.{Sight}
-use Rattle.coordination.specs.Agrees.{Finds}
-use Rattle.coordination.specs.Attempts.{Cause, Making}
-use Rattle.coordination.specs.Shown.{blocked_shown, lease_shown, locks_shown, parked_shown}
 use Rattle.coordination.proofs.lemmas.Entries.{belongs_sound, good_sound}
 use Rattle.blocking_section.proofs.lemmas.Up.{leaves_without}
 use Rattle.shared_services.specs.Takings.{HasTheLocks, IsShort, MayNotTake, TakesUses, has_nothing}

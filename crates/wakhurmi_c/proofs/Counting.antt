@@ -1,10 +1,8 @@
 -- How many workers a service has that was opened, and lists that grow together.
 use Rattle.std.proofs.Common.{◌≡◌, ◌∷◌, ◌++◌, ℕ, zero, suc, List, [], Option, length, map, refl, sym, ap, ◌∙◌}
 use Rattle.std.proofs.lemmas.List.{length-map, map-append}
-use Rattle.lock_journal.specs.BookView.{BookView}
-use Rattle.resource_lock.specs.declared.ids.LockId.{LockId}
-use Rattle.coordination.specs.Passes.{PassView}
-use Rattle.coordination.specs.Sights.{sights_from}
+use Rattle.lock_journal.specs.Names.{BookView, LockId}
+use Rattle.coordination.specs.Names.{PassView, sights_from}
 use Rattle.planned_work.specs.Opened.{IsOpenedFor}
 use Rattle.planned_work.specs.Plans.{WorkPlanView}
 use Rattle.wakhurmi_c.specs.Opened.{IsOpened}

@@ -5,8 +5,7 @@ use Rattle.std.proofs.lemmas.List.{drop_all, length-map, take_all, take_more}
 use Rattle.std.proofs.lemmas.List.Elements.{All-push}
 use Rattle.std.proofs.lemmas.Simd.{map-map}
 use Rattle.std.proofs.Math.ListN.{get_or-map}
-use Rattle.coordination.specs.Passes.{PassView}
-use Rattle.coordination.specs.Sights.{workers_from}
+use Rattle.coordination.specs.Names.{PassView, workers_from}
 use Rattle.wakhurmi_c.specs.PlannedOpening.{AreWhole}
 use Rattle.wakhurmi_c.specs.declared.planned_handles.PlannedHandle.{PlannedHandle}
 use Rattle.planned_work.specs.declared.workers.PlanWorker.{PlanWorker}

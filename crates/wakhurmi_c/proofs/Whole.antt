@@ -5,8 +5,7 @@ use Rattle.std.proofs.lemmas.List.{drop_all, length-map, take_all, take_more}
 use Rattle.std.proofs.lemmas.List.Elements.{All-push}
 use Rattle.std.proofs.lemmas.Simd.{map-map}
 use Rattle.std.proofs.Math.ListN.{get_or-map}
-use Rattle.coordination.specs.Passes.{PassView}
-use Rattle.coordination.specs.Sights.{workers_from}
+use Rattle.coordination.specs.Names.{PassView, workers_from}
 use Rattle.wakhurmi_c.specs.Closed.{AreWhole}
 use Rattle.wakhurmi_c.specs.declared.handles.Handle.{Handle}
 use Rattle.wakhurmi_c.specs.declared.workers.Worker.{Worker}

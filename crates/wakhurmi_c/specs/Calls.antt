@@ -1,15 +1,9 @@
 -- What each call of a worker leaves, by its answer.
 use Rattle.std.specs.Prelude.{◌≡◌, ℕ, false, List, None, Some, slice_get}
-use Rattle.lock_transforms.specs.Allowed.{IsFixedList}
-use Rattle.lock_transforms.specs.Taking.{acquired, can_take_all}
+use Rattle.lock_journal.specs.Names.{IsFixedList, acquired, can_take_all, Shortage, Waits, Fails, holding_of, leases_out, LockId}
 use Rattle.lock_transforms.specs.declared.entries.Kind.TheVariants as kinds
-use Rattle.lock_transforms.specs.declared.kinds.acquires.Shortage.{Shortage}
-use Rattle.lock_transforms.specs.declared.kinds.acquires.Shortage.TheVariants.{Waits, Fails}
-use Rattle.resource_lock.specs.StateView.{holding_of, leases_out}
-use Rattle.resource_lock.specs.declared.ids.LockId.{LockId}
+use Rattle.coordination.specs.Names.{IsAnswered, blocked_shown, lease_shown, parked_shown}
 use Rattle.coordination.specs.declared.rule.Sight.{Sight}
-use Rattle.coordination.specs.Calls.{IsAnswered}
-use Rattle.coordination.specs.Shown.{blocked_shown, lease_shown, parked_shown}
 use Rattle.wakhurmi_c.specs.Leaves.{Leaves}
 use Rattle.wakhurmi_c.specs.Places.{are_in_order, may_hand_back, may_take}
 use Rattle.wakhurmi_c.specs.declared.answers.Answer.{Answer}

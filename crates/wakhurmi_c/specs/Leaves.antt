@@ -1,14 +1,8 @@
 -- What a call leaves of its worker, by its answer.
 use Rattle.std.specs.Prelude.{◌≡◌, ◌⊎◌, Bool, true, false}
-use Rattle.resource_lock.specs.declared.ids.WorkerId.{WorkerId}
-use Rattle.lock_journal.specs.BookView.{BookView}
-use Rattle.lock_transforms.specs.declared.entries.Kind.{Kind}
+use Rattle.lock_journal.specs.Names.{WorkerId, BookView, Kind}
+use Rattle.coordination.specs.Names.{Finds, Cause, Making, HasFailed, HasFinished, HasLooked, WasStopped, seeing, KnowsNoStop}
 use Rattle.coordination.specs.declared.rule.Sight.{Sight}
-use Rattle.coordination.specs.Agrees.{Finds}
-use Rattle.coordination.specs.Attempts.{Cause, Making}
-use Rattle.coordination.specs.Calls.{HasFailed, HasFinished, HasLooked, WasStopped}
-use Rattle.coordination.specs.Sights.{seeing}
-use Rattle.coordination.specs.Stops.{KnowsNoStop}
 use Rattle.wakhurmi_c.specs.declared.answers.Answer.{Answer}
 use Rattle.wakhurmi_c.specs.declared.answers.Answer.TheVariants.{Done, Busy, Refused, Stopped, Again, NoMemory, BadNumber, Misused}
 

@@ -2,13 +2,8 @@
 use Rattle.std.specs.Prelude.{◌≡◌, ℕ, ◌-◌, Bool, true, false, List, [], Option, None, Some, map, ⊤}
 use Rattle.std.specs.List.{All}
 use Rattle.atomic_table.specs.Seated.{TableId}
-use Rattle.lock_journal.specs.BookView.{BookView}
-use Rattle.resource_lock.specs.AtRest.{IsAtRest}
-use Rattle.resource_lock.specs.Fits.{Fits}
-use Rattle.resource_lock.specs.Made.{made_of}
-use Rattle.resource_lock.specs.declared.ids.LockId.{LockId}
-use Rattle.coordination.specs.Passes.{PassView}
-use Rattle.coordination.specs.Sights.{sights_from}
+use Rattle.lock_journal.specs.Names.{BookView, IsAtRest, Fits, made_of, LockId}
+use Rattle.coordination.specs.Names.{PassView, sights_from}
 use Rattle.wakhurmi_c.specs.declared.answers.Answer.{Answer}
 use Rattle.wakhurmi_c.specs.declared.answers.Answer.TheVariants.{NoMemory, BadNumber}
 

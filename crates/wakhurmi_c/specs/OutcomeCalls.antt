@@ -1,8 +1,6 @@
 -- What became of tasks and units, as it is told.
 use Rattle.std.specs.Prelude.{ℕ, ◌≡◌, ◌==◌, ◌⊎◌, ◌≤◌, ◌<◌, Option, Some, None, length, if◌then◌else◌}
-use Rattle.resource_lock.specs.StateView.{mark_of}
-use Rattle.resource_lock.specs.declared.marks.MarkId.TheVariants.{Task as TaskOf}
-use Rattle.lock_journal.specs.BookView.{BookView}
+use Rattle.lock_journal.specs.Names.{mark_of, TaskOf, BookView}
 use Rattle.lock_journal.specs.Closings.{outcome_of}
 use Rattle.planned_work.specs.Numbers.{IsUnitAt}
 use Rattle.planned_work.specs.Outcomes.{ended_as, ended_by}

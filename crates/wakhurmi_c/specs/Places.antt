@@ -1,9 +1,7 @@
 -- Where a worker may make which call.
 use Rattle.std.specs.Prelude.{◌≡◌, ◌==◌, nat_lt, ℕ, Bool, not, ◌&&◌, ◌||◌, List, [], length}
 use Rattle.std.specs.List.{list_all}
-use Rattle.resource_lock.specs.GraphView.{GraphView}
-use Rattle.resource_lock.specs.declared.ids.LockId.{LockId}
-use Rattle.lock_transforms.specs.Taking.{rises}
+use Rattle.lock_journal.specs.Names.{GraphView, LockId, rises}
 use Rattle.coordination.specs.declared.rule.Sight.{Sight}
 use Rattle.coordination.specs.Shown.{blocked_shown, lease_shown, locks_shown, parked_shown}
 

@@ -1,7 +1,6 @@
 -- What the calls that make a plan leave, by their answers.
 use Rattle.std.specs.Prelude.{ℕ, ◌≡◌, ◌==◌, Bool, true, false, List, length, Option, Some, None, if◌then◌else◌}
-use Rattle.resource_lock.specs.declared.graphs.Retention.{Retention}
-use Rattle.resource_lock.specs.declared.graphs.Retention.TheVariants.{Retain, Release, ReleaseAndReacquire}
+use Rattle.lock_journal.specs.Names.{Retention, Retain, Release, ReleaseAndReacquire}
 use Rattle.planned_work.specs.Plans.{WhyNoAction, WhyNoNames, WhyNoPlan, WhyNoTask, WorkPlanView, empty_plan, lock_in, with_action, with_names, with_task}
 use Rattle.planned_work.specs.declared.plans.PlanRefusal.{PlanRefusal}
 use Rattle.planned_work.specs.declared.plans.PlannedAction.{PlannedAction}

@@ -1,7 +1,6 @@
 -- What the numbers say that C sees of a plan's calls.
 use Rattle.std.specs.Prelude.{ℕ, ◌≡◌, ◌==◌, ◌<◌, Option, Some, None, length, if◌then◌else◌}
-use Rattle.resource_lock.specs.GraphView.{GraphView}
-use Rattle.resource_lock.specs.declared.ids.WorkerId.{WorkerId}
+use Rattle.lock_journal.specs.Names.{GraphView, WorkerId}
 use Rattle.planned_work.specs.Numbers.{IsActionAt, IsUnitAt}
 use Rattle.planned_work.specs.declared.answers.Answer.{Answer}
 use Rattle.planned_work.specs.declared.answers.Answer.TheVariants as answers

@@ -1,7 +1,6 @@
 -- What the calls with a plan's worker tell C, by what they leave of the worker.
 use Rattle.std.specs.Prelude.{ℕ, ◌≡◌, Bool, true, false, Option, Some, None, ⊤}
-use Rattle.resource_lock.specs.GraphView.{GraphView}
-use Rattle.resource_lock.specs.StateView.{leases_out}
+use Rattle.lock_journal.specs.Names.{GraphView, leases_out}
 use Rattle.coordination.specs.Calls.{IsAnswered}
 use Rattle.coordination.specs.declared.rule.Sight.{Sight}
 use Rattle.planned_work.specs.Done.{ends_hold}

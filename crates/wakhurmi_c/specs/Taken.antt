@@ -2,9 +2,8 @@
 use Rattle.std.specs.Prelude.{◌≡◌, ◌<◌, ℕ, ◌+◌, ◌-◌, ◌^◌, ◌==◌, List, [], length, slice_get, Some, if◌then◌else◌, true}
 use Rattle.lock_journal.specs.BookView.{BookView}
 use Rattle.history_text.specs.Text.{head_text}
-use Rattle.coordination.specs.Agrees.{Finds}
+use Rattle.coordination.specs.Names.{Finds, seeing}
 use Rattle.coordination.specs.Giving.{HasTakenHistory}
-use Rattle.coordination.specs.Sights.{seeing}
 use Rattle.coordination.specs.declared.rule.Sight.{Sight}
 use Rattle.wakhurmi_c.specs.Texts.{first_line, line_of}
 use Rattle.wakhurmi_c.specs.declared.answers.Answer.{Answer}

@@ -1,7 +1,6 @@
 -- The lines of a history's text: the head, one for each entry, and the end. And what writing one into a buffer leaves.
 use Rattle.std.specs.Prelude.{◌≡◌, ◌≤◌, ◌<◌, ℕ, ◌+◌, ◌-◌, ◌==◌, true, List, [], ◌++◌, length, drop, slice_get, Option, Some, None, ⊤, if◌then◌else◌}
-use Rattle.lock_transforms.specs.Entry.{Entry}
-use Rattle.lock_journal.specs.BookView.{BookView}
+use Rattle.lock_journal.specs.Names.{Entry, BookView}
 use Rattle.history_text.specs.Text.{end_text, entry_text, head_text}
 use Rattle.wakhurmi_c.specs.declared.answers.Answer.{Answer}
 use Rattle.wakhurmi_c.specs.declared.answers.Answer.TheVariants.{NoMemory, BadNumber}

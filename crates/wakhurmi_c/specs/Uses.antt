@@ -1,9 +1,7 @@
 -- Uses of shared services, taken by a worker.
 use Rattle.std.specs.Prelude.{◌≡◌, ◌&&◌, ℕ, Bool, false, not, List}
 use Rattle.lock_transforms.specs.declared.entries.Kind.TheVariants as kinds
-use Rattle.lock_transforms.specs.declared.kinds.acquires.Shortage.{Shortage}
-use Rattle.lock_transforms.specs.declared.kinds.acquires.Shortage.TheVariants.{Waits, Fails}
-use Rattle.resource_lock.specs.GraphView.{GraphView}
+use Rattle.lock_journal.specs.Names.{Shortage, Waits, Fails, GraphView}
 use Rattle.shared_services.specs.Services.{AreServices, FitMaxima}
 use Rattle.shared_services.specs.Takings.{HasTheLocks, IsShort, TakesUses}
 use Rattle.coordination.specs.declared.rule.Sight.{Sight}

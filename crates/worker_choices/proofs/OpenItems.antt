@@ -4,10 +4,8 @@ use Rattle.std.specs.Prelude.{find}
 use Rattle.std.specs.Bool.{then_some}
 use Rattle.std.specs.List.{range_with_len}
 use Rattle.std.proofs.lemmas.Bool.{cases_eq, cases_lt, lt-ltb, le-ltb}
-use Rattle.resource_lock.specs.GraphView.{GraphView}
+use Rattle.lock_journal.specs.Names.{GraphView, StateView, mark_of, UnitOf}
 use Rattle.resource_lock.specs.Marks.{has_ended}
-use Rattle.resource_lock.specs.StateView.{StateView, mark_of}
-use Rattle.resource_lock.specs.declared.marks.MarkId.TheVariants.{Unit as UnitOf}
 use Rattle.ready_work.specs.Choices.{IsOpenUnit}
 use Rattle.ready_work.specs.Lowest.{IsFrom, IsLowest, IsNone}
 

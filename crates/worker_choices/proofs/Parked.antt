@@ -1,8 +1,7 @@
 -- A parked lock, by its place.
 use Rattle.std.proofs.Common.{◌≡◌, ℕ, zero, suc, ◌<◌, ◌||◌, Bool, true, false, List, [], ◌∷◌, length, get_or, eqb, refl, arith, subst, sym}
 use Rattle.std.proofs.lemmas.Bool.{eq-eqb}
-use Rattle.resource_lock.specs.StateView.{stands_in}
-use Rattle.resource_lock.specs.declared.ids.LockId.{LockId}
+use Rattle.lock_journal.specs.Names.{stands_in, LockId}
 
 or_left : (a b : Bool) → a ≡ true → (a || b) ≡ true
 or_left true b is = refl

@@ -1,9 +1,7 @@
 -- Which entries can let another worker go on.
 use Rattle.std.specs.Prelude.{◌-◌, Bool, false, List, length, Option, None, Some, slice_get}
 use Rattle.std.specs.List.{list_any}
-use Rattle.resource_lock.specs.declared.changes.Change.{Change}
-use Rattle.lock_transforms.specs.Entry.{Entry}
-use Rattle.lock_transforms.specs.GoingOn.{lets_go_on}
+use Rattle.lock_journal.specs.Names.{Change, Entry, lets_go_on}
 
 -- one of the changes does so; a failed entry has none
 abbrev pub any_lets_go_on : Option (List Change) → Bool

@@ -1,37 +1,27 @@
 -- What a worker can do next, and where it has to wait.
-use Rattle.std.specs.Prelude.{ℕ, ◌≡◌, ◌<◌, Bool, true, false, not, ◌&&◌, ◌||◌, List, Option, None, Some, All, find, is_none}
+use Rattle.std.specs.Prelude.{ℕ, ◌≡◌, ◌<◌, Bool, true, false, not, ◌&&◌, List, Option, None, Some, All, find, is_none}
 use Rattle.std.specs.Prelude.{length, slice_get}
-use Rattle.resource_lock.specs.GraphView.{GraphView, action_of}
-use Rattle.resource_lock.specs.Ranges.{items_of, lock_with}
-use Rattle.resource_lock.specs.StateView.{StateView, holding_of, kept_from, mark_of, owner_of}
-use Rattle.resource_lock.specs.Trying.{can_lease}
-use Rattle.resource_lock.specs.declared.graphs.Retention.{Retention}
-use Rattle.resource_lock.specs.declared.graphs.Retention.TheVariants.{Retain, Release, ReleaseAndReacquire}
-use Rattle.resource_lock.specs.declared.ids.LockId.{LockId}
-use Rattle.resource_lock.specs.declared.ids.WorkerId.{WorkerId}
-use Rattle.resource_lock.specs.declared.marks.MarkId.TheVariants.{Unit as UnitOf}
+use Rattle.lock_journal.specs.Names.{GraphView, action_of, items_of, lock_with, StateView, holding_of, kept_from, mark_of, owner_of, can_lease}
+use Rattle.lock_journal.specs.Names.{Retention, Retain, Release, ReleaseAndReacquire, LockId, WorkerId, UnitOf, has_ended, can_take_all, IsEnded}
 use Rattle.ready_work.specs.Choices.{CanSkip, CanStart}
 use Rattle.ready_work.specs.Lowest.{IsNone}
-use Rattle.lock_transforms.specs.Table.{has_ended}
-use Rattle.lock_transforms.specs.Taking.{can_take_all}
-use Rattle.lock_journal.specs.Marks.{IsEnded}
 use Rattle.worker_choices.specs.declared.awaited.Awaited.{Awaited}
 use Rattle.worker_choices.specs.declared.awaited.Awaited.TheVariants.{Work, Items, TakeUp}
 use Rattle.worker_choices.specs.declared.stances.Stance.{Stance}
 use Rattle.worker_choices.specs.declared.stances.Stance.TheVariants.{Sleeps}
 
--- a ticket is queued, and a lease is free for its unit
-abbrev pub can_pop : WorkerId → StateView → Bool → Bool
-can_pop w s queued = queued && can_lease s w
+-- an item waits to be claimed, and a lease is free for it
+abbrev pub can_claim : WorkerId → StateView → Bool → Bool
+can_claim w s queued = queued && can_lease s w
 
 -- with a lease at hand the task could be started
 pub record CanBegin (g : GraphView) (w : WorkerId) (s : StateView) (t : ℕ) : Type 0 where
   pub lease : can_lease s w ≡ true
   pub start : CanStart g s t
 
--- an idle worker can neither pop a ticket nor skip or start a task, nor have all tasks ended
+-- an idle worker can neither claim an item nor skip or start a task, nor have all tasks ended
 pub record HasNothingToDo (g : GraphView) (w : WorkerId) (s : StateView) (queued : Bool) : Type 0 where
-  pub pop : can_pop w s queued ≡ false
+  pub claim : can_claim w s queued ≡ false
   pub skip : IsNone (CanSkip g s)
   pub start : IsNone (CanBegin g w s)
   pub goes_on : All IsEnded s.tasks → ⊥
@@ -51,19 +41,19 @@ pub record CanGoOn (g : GraphView) (w : WorkerId) (s : StateView) (a : ℕ) : Ty
   pub over : first_open g s a ≡ None
   pub free : can_take_again (action_of g a).retention (lock_with g a) w s ≡ true
 
--- a worker that is parked in the action can neither resume nor pop a ticket
+-- a worker that is parked in the action can neither resume nor claim an item
 pub record HasToWait (g : GraphView) (w : WorkerId) (s : StateView) (queued : Bool) (a : ℕ) : Type 0 where
   pub waits : CanGoOn g w s a → ⊥
-  pub pop : can_pop w s queued ≡ false
+  pub claim : can_claim w s queued ≡ false
 
 -- the worker can have all locks that it has parked, and a lease
 abbrev pub can_take_up : WorkerId → StateView → Bool
 can_take_up w s = can_take_all s w (holding_of s w).parked
 
--- What a worker waits for isn't there, where a ticket is queued or none. Units of its own are tickets to it.
+-- What a worker waits for isn't there, where an item waits to be claimed or none does.
 abbrev pub Waits : GraphView → WorkerId → StateView → Bool → Awaited → Type 0
 Waits g w s queued Work = HasNothingToDo g w s queued
-Waits g w s queued (Items a own) = a < length g.actions → HasToWait g w s (queued || own) a
+Waits g w s queued (Items a) = a < length g.actions → HasToWait g w s queued a
 Waits g w s queued TakeUp = can_take_up w s ≡ false
 
 -- each worker below a number that sleeps until what it waits for comes still waits for it

@@ -1,9 +1,6 @@
 -- For which workers there was found to be no work.
 use Rattle.std.specs.Prelude.{◌≡◌, Bool, true, false}
-use Rattle.resource_lock.specs.GraphView.{GraphView}
-use Rattle.resource_lock.specs.StateView.{StateView}
-use Rattle.resource_lock.specs.Trying.{can_lease}
-use Rattle.resource_lock.specs.declared.ids.WorkerId.{WorkerId}
+use Rattle.lock_journal.specs.Names.{GraphView, StateView, can_lease, WorkerId}
 use Rattle.worker_choices.specs.NextSteps.{HasNothingToDo}
 use Rattle.worker_choices.specs.declared.woken.NoWork.{NoWork}
 

@@ -4,15 +4,15 @@ ghost use Rattle.worker_choices.specs.Choices.{IsNext, IsNextParked};
 ghost use Rattle.worker_choices.specs.NextSteps.{HasNothingToDo, HasToWait, Waits};
 
 use crate::awaited::Awaited;
-use crate::next_steps::{all_ended, can_go_on, can_pop, can_take_up, task_to_start};
+use crate::next_steps::{all_ended, can_claim, can_go_on, can_take_up, task_to_start};
 use lock_journal::Book;
 use resource_lock::WorkerId;
 
 /// What an idle worker does next.
 #[derive(Clone, Copy)]
 pub enum Choice {
-    /// It pops a ticket.
-    Pop,
+    /// It claims an item that waits.
+    Claim,
     /// It skips this task, the lowest that can be skipped.
     Skip(u32),
     /// It starts this task, the lowest that can be started.
@@ -26,19 +26,18 @@ pub enum Choice {
 pub enum ParkedChoice {
     /// It resumes: the items that it waits for have ended, and it can have what it takes again.
     Resume,
-    /// It pops a ticket, or takes a unit of its own.
-    Pop,
+    /// It claims an item that waits.
+    Claim,
 }
 
-/// What an idle worker does next, where a ticket is queued or none. None says that there is nothing to
-/// do yet.
+/// What an idle worker does next, where an item waits to be claimed or none does. None says that there is nothing to do yet.
 pub fn next_of_idle(book: &Book, worker: WorkerId, queued: bool) -> Option<Choice>
     requires { worker.0 < book.now.graph.workers }
     ensures next { IfSome result (IsNext book.now.graph worker book.now.state queued) }
     ensures waits { IfNone result (HasNothingToDo book.now.graph worker book.now.state queued) }
 {
-    if can_pop(book, worker, queued) {
-        return Some(Choice::Pop);
+    if can_claim(book, worker, queued) {
+        return Some(Choice::Claim);
     }
     if let Some(task) = book.lowest_to_skip() {
         return Some(Choice::Skip(task));
@@ -49,8 +48,8 @@ pub fn next_of_idle(book: &Book, worker: WorkerId, queued: bool) -> Option<Choic
     all_ended(book).then_some(Choice::Finish)
 }
 
-/// What a worker does next that is parked in an action, where a ticket is queued, or a unit of its own
-/// waits, or neither. None says that there is nothing to do yet.
+/// What a worker does next that is parked in an action, where an item waits to be claimed or none does. None says that there is
+/// nothing to do yet.
 pub fn next_of_parked(
     book: &Book,
     worker: WorkerId,
@@ -65,11 +64,10 @@ pub fn next_of_parked(
     if can_go_on(book, worker, action) {
         return Some(ParkedChoice::Resume);
     }
-    can_pop(book, worker, queued).then_some(ParkedChoice::Pop)
+    can_claim(book, worker, queued).then_some(ParkedChoice::Claim)
 }
 
-/// Whether what a worker waits for has come, where a ticket is queued or none: its question has an
-/// answer then.
+/// Whether what a worker waits for has come, where an item waits to be claimed or none does: its question has an answer then.
 pub fn has_come(book: &Book, worker: WorkerId, queued: bool, awaited: Awaited) -> bool
     requires { worker.0 < book.now.graph.workers }
     ensures waits { result ≡ false → Waits book.now.graph worker book.now.state queued awaited }
@@ -77,9 +75,9 @@ pub fn has_come(book: &Book, worker: WorkerId, queued: bool, awaited: Awaited) -
 {
     match awaited {
         Awaited::Work => next_of_idle(book, worker, queued).is_some(),
-        Awaited::Items { action, own } => {
+        Awaited::Items(action) => {
             (action as usize) < book.graph().actions().len()
-                && next_of_parked(book, worker, queued || own, action).is_some()
+                && next_of_parked(book, worker, queued, action).is_some()
         }
         Awaited::TakeUp => can_take_up(book, worker),
     }

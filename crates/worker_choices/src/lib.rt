@@ -12,7 +12,7 @@ mod woken;
 pub use awaited::Awaited;
 pub use choices::{Choice, ParkedChoice, has_come, next_of_idle, next_of_parked};
 pub use going_on::{last_lets_go_on, lets_go_on};
-pub use next_steps::{all_ended, can_go_on, can_pop, can_take_up, lease_is_free, task_to_start};
+pub use next_steps::{all_ended, can_claim, can_go_on, can_take_up, lease_is_free, task_to_start};
 pub use open_items::first_open;
 pub use stances::Stance;
 pub use woken::{Woken, whom_to_wake};

@@ -8,7 +8,7 @@ ghost use Rattle.resource_lock.specs.declared.ids.LockId.{LockId};
 ghost use Rattle.resource_lock.specs.Trying.{can_lease, can_own};
 ghost use Rattle.ready_work.specs.Lowest.{IsLowest, IsNone};
 ghost use Rattle.lock_journal.specs.Marks.{IsEnded};
-ghost use Rattle.worker_choices.specs.NextSteps.{CanBegin, CanGoOn, can_pop, can_take_again, can_take_up, first_open};
+ghost use Rattle.worker_choices.specs.NextSteps.{CanBegin, CanGoOn, can_claim, can_take_again, can_take_up, first_open};
 
 use crate::open_items::first_open;
 use lock_journal::Book;
@@ -24,10 +24,10 @@ pub fn lease_is_free(book: &Book, worker: WorkerId) -> bool
     state.has_lease(worker) || state.leases_out() < book.graph().max_leases()
 }
 
-/// Whether a ticket can be popped, where one is queued or none: there has to be a lease for its unit.
-pub fn can_pop(book: &Book, worker: WorkerId, queued: bool) -> bool
+/// Whether an item can be claimed, where one waits or none does: there has to be a lease for it.
+pub fn can_claim(book: &Book, worker: WorkerId, queued: bool) -> bool
     requires { worker.0 < book.now.graph.workers }
-    ensures { result ≡ can_pop worker book.now.state queued }
+    ensures { result ≡ can_claim worker book.now.state queued }
 {
     queued && lease_is_free(book, worker)
 }

@@ -26,7 +26,7 @@ pub enum Woken {
     All,
 }
 
-/// Whom of the workers to wake, by their stances, where nobody looks and a ticket is queued or none.
+/// Whom of the workers to wake, by their stances, where nobody looks and an item waits to be claimed or none does.
 ///
 /// All are woken where all tasks have ended. Else it is the first worker for which what it waits for
 /// has come; it looks then, and who looks last wakes the next.

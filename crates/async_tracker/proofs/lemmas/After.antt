@@ -1,16 +1,10 @@
 -- What is so by the answer of a call.
 use Rattle.std.proofs.Common.{◌≡◌, ◌≢◌, Bool, true, false, Result, Ok, Err, refl, sym, ◌<◌, subst}
 use Rattle.std.specs.Prelude.{IfOk, OnErr, OnOk}
-use Rattle.resource_lock.specs.GraphView.{GraphView}
-use Rattle.resource_lock.specs.declared.ids.WorkerId.{WorkerId}
-use Rattle.lock_journal.specs.BookView.{BookView}
-use Rattle.lock_transforms.specs.declared.entries.Kind.{Kind}
-use Rattle.coordination.specs.Agrees.{Finds}
+use Rattle.lock_journal.specs.Names.{GraphView, WorkerId, BookView, Kind}
+use Rattle.coordination.specs.Names.{Finds, Cause, Making, AskedInVain, HasFailed, HasFinished, HasLooked, ShowsTheSame}
 use Rattle.coordination.proofs.lemmas.Growing.{agrees_self}
 use Rattle.coordination.proofs.lemmas.Shown.{stopped_shows}
-use Rattle.coordination.specs.Attempts.{Cause, Making}
-use Rattle.coordination.specs.Calls.{AskedInVain, HasFailed, HasFinished, HasLooked}
-use Rattle.coordination.specs.Shown.{ShowsTheSame}
 use Rattle.coordination.specs.declared.rule.Sight.{Sight}
 use Rattle.coordination.specs.declared.halts.Halt.{Halt}
 

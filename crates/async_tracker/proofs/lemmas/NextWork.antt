@@ -2,24 +2,11 @@
 use Rattle.std.proofs.Common.{◌≡◌, ◌<◌, ◌≤◌, ℕ, Bool, true, false, Option, Some, inl, inr, length, refl, sym, ap, ◌∙◌, subst, arith}
 use Rattle.std.specs.List.{list_any}
 use Rattle.std.proofs.lemmas.Bool.{false≢true}
-use Rattle.resource_lock.specs.Fits.{Fits}
-use Rattle.resource_lock.specs.GraphView.{GraphView}
-use Rattle.resource_lock.specs.StateView.{Holding, StateView, mark_of}
-use Rattle.resource_lock.specs.declared.ids.WorkerId.{WorkerId}
-use Rattle.resource_lock.specs.declared.marks.Mark.TheVariants.{Queued}
-use Rattle.resource_lock.specs.declared.marks.MarkId.TheVariants.{Unit as UnitOf}
+use Rattle.lock_journal.specs.Names.{Fits, GraphView, Holding, StateView, mark_of, WorkerId, Queued, UnitOf, IsFixedList, Kind, BookView, is_unit}
 use Rattle.ready_work.specs.Choices.{IsQueued}
-use Rattle.lock_transforms.specs.Allowed.{IsFixedList}
-use Rattle.lock_transforms.specs.declared.entries.Kind.{Kind}
-use Rattle.lock_journal.specs.BookView.{BookView}
-use Rattle.lock_journal.specs.Own.{is_unit}
 use Rattle.lock_journal.proofs.Queue.{queued_is_item}
-use Rattle.coordination.specs.Agrees.{Finds}
-use Rattle.coordination.specs.Attempts.{Making}
-use Rattle.coordination.specs.Calls.{HasFinished}
-use Rattle.coordination.specs.Decisions.{HasDecided, HasFailedIn, IsToWaitIn}
-use Rattle.coordination.specs.Holds.{HoldsNothing}
-use Rattle.coordination.specs.Offered.{AsTold, Telling}
+use Rattle.coordination.specs.Names.{Finds, Making, HasFinished, HasDecided, IsToWaitIn, HoldsNothing, AsTold, Telling}
+use Rattle.coordination.specs.Decisions.{HasFailedIn}
 use Rattle.coordination.specs.declared.decisions.Decided.{Decided}
 use Rattle.coordination.specs.declared.decisions.Decided.TheVariants as decided
 use Rattle.coordination.specs.declared.rule.Sight.{Sight}

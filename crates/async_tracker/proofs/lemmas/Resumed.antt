@@ -4,39 +4,21 @@ use Rattle.std.specs.Prelude.{find, is_none, nat_lt}
 use Rattle.std.specs.List.{list_all}
 use Rattle.std.proofs.lemmas.Bool.{and_from, and_parts, cases_lt, eq-eqb, false≢true, false_from_ne_true, not-true}
 use Rattle.std.proofs.lemmas.List.{get_or_past}
-use Rattle.resource_lock.specs.Change.{can, can_all, holding_after, inverse_of, make, same_mark, stands_last, without_last}
-use Rattle.resource_lock.specs.Good.{Good}
-use Rattle.resource_lock.specs.GraphView.{GraphView, action_of}
-use Rattle.resource_lock.specs.Ranges.{items_of, lock_with}
-use Rattle.resource_lock.specs.StateView.{Holding, StateView, has_parked, holding_of, kept_from, leases_out, mark_of, owner_of, owns, runs_unit, stands_in, IsWorkerOf}
-use Rattle.resource_lock.specs.Trying.{can_lease}
-use Rattle.resource_lock.specs.declared.changes.Change.TheVariants.{Lock, Take, Move, Unpark}
-use Rattle.resource_lock.specs.declared.graphs.Retention.{Retention}
-use Rattle.resource_lock.specs.declared.graphs.Retention.TheVariants.{Retain, Release, ReleaseAndReacquire}
-use Rattle.resource_lock.specs.declared.ids.LockId.{LockId}
-use Rattle.resource_lock.specs.declared.ids.WorkerId.{WorkerId}
-use Rattle.resource_lock.specs.declared.marks.Mark.{Mark}
-use Rattle.resource_lock.specs.declared.marks.Mark.TheVariants.{Waiting, Queued, Running, Passed, Failed, Skipped}
-use Rattle.resource_lock.specs.declared.marks.MarkId.{MarkId}
-use Rattle.resource_lock.specs.declared.marks.MarkId.TheVariants.{Action as ActionOf, Unit as UnitOf}
+use Rattle.lock_journal.specs.Names.{can, can_all, holding_after, make, same_mark, stands_last, without_last, Good, GraphView, action_of, items_of}
+use Rattle.lock_journal.specs.Names.{lock_with, Holding, StateView, has_parked, holding_of, kept_from, leases_out, mark_of, owner_of, owns, runs_unit}
+use Rattle.lock_journal.specs.Names.{stands_in, IsWorkerOf, can_lease, Lock, Take, Move, Unpark, Retention, Retain, Release, ReleaseAndReacquire}
+use Rattle.lock_journal.specs.Names.{LockId, WorkerId, Mark, Waiting, Queued, Running, Passed, Failed, Skipped, MarkId, ActionOf, UnitOf, IsDisabled}
+use Rattle.lock_journal.specs.Names.{IsFixedList, BookView, Entry, replay, Lawful, condition, has_ended, on_resume, can_take_all, Resume, IsEnded}
+use Rattle.lock_journal.specs.Names.{mark_before, with_if, without_if, without_member}
+use Rattle.resource_lock.specs.Change.{inverse_of}
 use Rattle.resource_lock.proofs.lemmas.Kept.{can_back, leases-with_holding}
 use Rattle.resource_lock.proofs.lemmas.Runs.{worker_from}
 use Rattle.resource_lock.proofs.lemmas.Undo.{last_from}
 use Rattle.lock_transforms.proofs.lemmas.Locking.{free_lock}
-use Rattle.lock_transforms.specs.Allowed.{IsDisabled, IsFixedList}
-use Rattle.lock_journal.specs.BookView.{BookView}
-use Rattle.lock_transforms.specs.Entry.{Entry, replay}
-use Rattle.lock_transforms.specs.Allowed.{Lawful}
-use Rattle.lock_transforms.specs.Table.{condition, has_ended, on_resume}
-use Rattle.lock_transforms.specs.Taking.{can_take_all}
-use Rattle.lock_transforms.specs.declared.entries.Kind.TheVariants.{Resume}
-use Rattle.lock_journal.specs.Marks.{IsEnded}
-use Rattle.lock_journal.specs.OwnChanges.{mark_before, with_if, without_if, without_member}
 use Rattle.lock_journal.proofs.lemmas.Growing.{marks_stay}
 use Rattle.lock_journal.proofs.lemmas.OwnChanges.{own_holding_all}
-use Rattle.coordination.specs.Agrees.{Finds, IsSoundBook}
-use Rattle.coordination.specs.Calls.{HasFinished, HasLooked, IsAnswered}
-use Rattle.coordination.specs.Shown.{blocked_shown, claimed_shown, lease_shown, locks_shown, parked_shown}
+use Rattle.coordination.specs.Names.{Finds, IsSoundBook, HasFinished, HasLooked, IsAnswered, blocked_shown, claimed_shown, lease_shown, locks_shown}
+use Rattle.coordination.specs.Names.{parked_shown}
 use Rattle.coordination.specs.declared.rule.Sight.{Sight}
 use Rattle.coordination.proofs.lemmas.Entries.{belongs_sound, good_sound}
 use Rattle.async_tracker.specs.ParkedView.{ParkedView}

@@ -1,11 +1,8 @@
 -- What was given back stays that of the pass while others make entries.
 use Rattle.std.proofs.Common.{◌≡◌, ◌≢◌, Result, Ok, Err, refl, sym, ap, ◌∙◌, subst}
 use Rattle.std.specs.Prelude.{IfOk}
-use Rattle.resource_lock.specs.StateView.{Holding, stands_in}
-use Rattle.resource_lock.specs.declared.ids.WorkerId.{WorkerId}
-use Rattle.lock_journal.specs.BookView.{BookView}
-use Rattle.coordination.specs.Agrees.{Agrees}
-use Rattle.coordination.specs.Calls.{AskedInVain, IsAnswered}
+use Rattle.lock_journal.specs.Names.{Holding, stands_in, WorkerId, BookView}
+use Rattle.coordination.specs.Names.{Agrees, AskedInVain, IsAnswered}
 use Rattle.coordination.specs.declared.halts.Halt.{Halt}
 use Rattle.coordination.specs.declared.halts.Halt.TheVariants.{NoMemory, Stopped}
 use Rattle.coordination.specs.declared.rule.Sight.{Sight}

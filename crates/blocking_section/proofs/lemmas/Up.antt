@@ -6,19 +6,14 @@ use Rattle.std.proofs.lemmas.Bool.{and_from, and_parts, cases_Bool, eq-eqb, eqb-
 use Rattle.std.proofs.lemmas.List.{get_or-set_other, length_push, get_or_push, reverse-append}
 use Rattle.std.proofs.lemmas.List.Folds.{list_any-append}
 use Rattle.std.proofs.lemmas.Option.{slice_get-get_or}
-use Rattle.resource_lock.specs.Change.{can, can_all, holding_after, is_lock, make, make_all, names_only, same_mark, stands_last, without_last}
-use Rattle.resource_lock.specs.Good.{Good}
-use Rattle.resource_lock.specs.GraphView.{GraphView}
-use Rattle.resource_lock.specs.StateView.{Holding, StateView, each_once, has_parked, holding_of, kept_from, leases_out, mark_of, owner_of, owns, runs_by, runs_unit, stands_in, IsLockOf, IsWorkerOf}
-use Rattle.resource_lock.specs.Trying.{can_lease, can_own}
-use Rattle.resource_lock.specs.declared.changes.Change.{Change}
-use Rattle.resource_lock.specs.declared.changes.Change.TheVariants.{Lock, Take, Move, Unpark, Leave}
-use Rattle.resource_lock.specs.declared.ids.LockId.{LockId}
-use Rattle.resource_lock.specs.declared.ids.WorkerId.{WorkerId}
-use Rattle.resource_lock.specs.declared.marks.Mark.{Mark}
-use Rattle.resource_lock.specs.declared.marks.Mark.TheVariants.{Running}
-use Rattle.resource_lock.specs.declared.marks.MarkId.{MarkId}
-use Rattle.resource_lock.specs.declared.marks.MarkId.TheVariants.{Unit as UnitOf}
+use Rattle.lock_journal.specs.Names.{can, can_all, holding_after, make, make_all, names_only, same_mark, stands_last, without_last, Good, GraphView}
+use Rattle.lock_journal.specs.Names.{Holding, StateView, has_parked, holding_of, kept_from, leases_out, mark_of, owner_of, owns, runs_by, runs_unit}
+use Rattle.lock_journal.specs.Names.{stands_in, IsLockOf, IsWorkerOf, can_lease, Change, Lock, Take, Move, Unpark, Leave, LockId, WorkerId, Mark}
+use Rattle.lock_journal.specs.Names.{Running, MarkId, UnitOf, condition, is_enabled, list_of, mark_from, taken_again, taken_up, can_take_all, rises}
+use Rattle.lock_journal.specs.Names.{Closed, Unblock, after_all, claimed_after, lock_before, locks_after, with_member}
+use Rattle.resource_lock.specs.Change.{is_lock}
+use Rattle.resource_lock.specs.StateView.{each_once}
+use Rattle.resource_lock.specs.Trying.{can_own}
 use Rattle.resource_lock.proofs.lemmas.Kept.{kept, leases-with_holding}
 use Rattle.resource_lock.proofs.lemmas.Lists.{each_once-front}
 use Rattle.resource_lock.proofs.lemmas.Runs.{can_all-append, named_along, same_shape-make, same_shape-make_all, worker_along}
@@ -27,11 +22,6 @@ use Rattle.resource_lock.proofs.lemmas.Undo.{holding_now, none_from, same_lock, 
 use Rattle.lock_transforms.proofs.lemmas.Locking.{free_lock}
 use Rattle.item_actions.specs.declared.outcomes.Outcome.{Outcome}
 use Rattle.item_actions.specs.declared.outcomes.Outcome.TheVariants as outcomes
-use Rattle.lock_transforms.specs.Table.{condition, is_enabled, list_of, mark_from, taken_again, taken_up}
-use Rattle.lock_transforms.specs.Taking.{can_take_all, rises}
-use Rattle.lock_transforms.specs.declared.entries.Closed.{Closed}
-use Rattle.lock_transforms.specs.declared.entries.Kind.TheVariants.{Unblock}
-use Rattle.lock_journal.specs.OwnChanges.{after_all, claimed_after, lock_before, locks_after, with_member}
 use Rattle.lock_journal.proofs.lemmas.OwnChanges.{own_holding_all}
 use Rattle.blocking_section.proofs.After.{after_all-append}
 

@@ -1,11 +1,10 @@
 -- A run within a call that began before it and ended behind it.
 use Rattle.std.proofs.Common.{◌≡◌, ℕ, ◌≤◌, [], inl, Option, refl, sym, subst, arith}
 use Rattle.item_actions.specs.Files.{Folder}
-use Rattle.lock_journal.specs.BookView.{BookView}
+use Rattle.lock_journal.specs.Names.{BookView, closed_by}
 use Rattle.item_work.specs.Requests.{SentView}
 use Rattle.plan_reader.specs.PlanView.{PlanView}
 use Rattle.plan_reader.specs.Units.{plan_units}
-use Rattle.lock_journal.specs.ClosedBy.{closed_by}
 use Rattle.build_workers.specs.Desks.{DeskView}
 use Rattle.build_workers.specs.Run.{HasResults, IsRunOf, WasBrokenOff}
 use Rattle.build_workers.specs.Sent.{AreSentAndOneMore, AreSentFor}

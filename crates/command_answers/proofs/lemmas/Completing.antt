@@ -9,13 +9,10 @@ use Rattle.std.proofs.lemmas.List.Sums.{sum_by-cons}
 use Rattle.item_actions.specs.Files.{Folder}
 use Rattle.item_actions.specs.Value.{IsHonest, is_fault, value_on}
 use Rattle.item_actions.specs.declared.outcomes.Outcome.{Outcome}
-use Rattle.resource_lock.specs.declared.ids.WorkerId.{WorkerId}
-use Rattle.lock_journal.specs.BookView.{BookView}
-use Rattle.lock_transforms.specs.Entry.{Entry}
+use Rattle.lock_journal.specs.Names.{WorkerId, BookView, Entry, closed_by, faults_in}
 use Rattle.file_access.specs.Calls.{next}
 use Rattle.file_access.specs.SinkView.{SinkView, Rises}
 use Rattle.plan_reader.specs.PlanView.{PlanView}
-use Rattle.lock_journal.specs.ClosedBy.{closed_by, faults_in}
 use Rattle.build_workers.specs.Desks.{DeskView}
 use Rattle.build_workers.specs.Run.{IsRunOf}
 use Rattle.build_workers.proofs.lemmas.KnownFiles.{known_first}

@@ -5,22 +5,11 @@ use Rattle.std.specs.List.{list_all, range_with_len}
 use Rattle.item_actions.specs.Files.{Folder}
 use Rattle.item_actions.specs.declared.outcomes.Outcome.{Outcome}
 use Rattle.item_actions.specs.declared.outcomes.Outcome.TheVariants as outcomes
-use Rattle.resource_lock.specs.Fits.{Fits}
-use Rattle.resource_lock.specs.GraphView.{GraphView}
-use Rattle.resource_lock.specs.StateView.{StateView, mark_of}
-use Rattle.resource_lock.specs.declared.marks.Mark.{Mark}
-use Rattle.resource_lock.specs.declared.marks.MarkId.TheVariants.{Task as TaskOf}
-use Rattle.lock_journal.specs.Closings.{last_or, outcome_in}
-use Rattle.lock_transforms.specs.Entry.{Entry}
-use Rattle.lock_journal.specs.BookView.{BookView}
-use Rattle.lock_transforms.specs.Table.{has_passed}
-use Rattle.resource_lock.specs.declared.ids.LockId.{LockId}
+use Rattle.lock_journal.specs.Names.{Fits, GraphView, StateView, mark_of, Mark, TaskOf, last_or, outcome_in, Entry, BookView, has_passed, LockId}
+use Rattle.lock_journal.specs.Names.{outcome_by, task_outcome, ComesTo}
 use Rattle.plan_reader.specs.Graph.{all_projects_lock, task_lock, tasks_from}
 use Rattle.plan_reader.specs.PlanView.{PlanTaskView, PlanView}
 use Rattle.plan_reader.specs.Units.{plan_units}
-use Rattle.lock_journal.specs.ByNumber.{outcome_by}
-use Rattle.lock_journal.specs.Outcomes.{task_outcome}
-use Rattle.lock_journal.specs.Runs.{ComesTo}
 use Rattle.daemon_manager.specs.declared.events.Event.{Event}
 use Rattle.run_watch.specs.declared.boards.Watch.{Watch}
 use Rattle.build_workers.specs.RunDesks.{known_by}

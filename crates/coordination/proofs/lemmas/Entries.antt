@@ -3,28 +3,15 @@ use Rattle.std.proofs.Common.{◌≡◌, ℕ, ◌-◌, ◌<◌, List, [], ◌∷
 use Rattle.std.specs.Prelude.{slice_get, vec_capacity}
 use Rattle.std.proofs.Math.Seq.{get_or-append_seam}
 use Rattle.std.proofs.lemmas.Option.{slice_get-get_or}
-use Rattle.resource_lock.specs.Change.{holding_after, make_all}
-use Rattle.resource_lock.specs.declared.changes.Change.{Change}
-use Rattle.resource_lock.specs.Good.{Good}
-use Rattle.resource_lock.specs.Shape.{BelongsTo}
-use Rattle.resource_lock.specs.StateView.{Holding, StateView}
-use Rattle.resource_lock.specs.declared.ids.LockId.{LockId}
-use Rattle.resource_lock.specs.declared.ids.WorkerId.{WorkerId}
-use Rattle.resource_lock.specs.declared.marks.MarkId.{MarkId}
+use Rattle.lock_journal.specs.Names.{holding_after, make_all, Change, Good, BelongsTo, Holding, StateView, LockId, WorkerId, MarkId, Entry, entry}
+use Rattle.lock_journal.specs.Names.{locks_gained, Kind, BookView, last_changes, made_by, after_all, claimed_after, locks_after, Disposition}
+use Rattle.lock_journal.specs.Names.{Finished}
 use Rattle.resource_lock.proofs.lemmas.Runs.{worker_from}
-use Rattle.lock_transforms.specs.Entry.{Entry, entry}
-use Rattle.lock_transforms.specs.MostChanges.{locks_gained}
-use Rattle.lock_transforms.specs.declared.entries.Kind.{Kind}
-use Rattle.lock_journal.specs.BookView.{BookView}
-use Rattle.lock_journal.specs.LastChanges.{last_changes, made_by}
-use Rattle.lock_journal.specs.OwnChanges.{after_all, claimed_after, locks_after}
-use Rattle.lock_transforms.specs.declared.transforms.Disposition.{Disposition}
-use Rattle.lock_transforms.specs.declared.transforms.Disposition.TheVariants.{Finished, Failed}
+use Rattle.lock_transforms.specs.declared.transforms.Disposition.TheVariants.{Failed}
 use Rattle.lock_journal.proofs.lemmas.Named.{belongs, good}
 use Rattle.lock_journal.proofs.lemmas.OwnChanges.{own_claimed_all, own_holding_all, own_locks_all}
-use Rattle.coordination.specs.Agrees.{IsSoundBook}
-use Rattle.coordination.specs.WorkerEntries.{last_of}
-use Rattle.coordination.specs.Parts.{Follows, Has, IsPartOf, LeadsOn, holding_in, lock_count, lock_total}
+use Rattle.coordination.specs.Names.{IsSoundBook, last_of, Follows, IsPartOf, LeadsOn, holding_in}
+use Rattle.coordination.specs.Parts.{Has, lock_count, lock_total}
 use Rattle.coordination.specs.declared.parts.WorkerPart.{WorkerPart}
 use Rattle.coordination.proofs.lemmas.FewMarks.{Keeps, keeps}
 use Rattle.coordination.proofs.lemmas.Growing.{last_of-own}

@@ -7,29 +7,14 @@ use Rattle.std.proofs.lemmas.List.{get_or_past, length-map}
 use Rattle.std.proofs.lemmas.List.Folds.{list_any_at}
 use Rattle.item_actions.specs.declared.outcomes.Outcome.{Outcome}
 use Rattle.item_actions.specs.declared.outcomes.Outcome.TheVariants as outcomes
-use Rattle.resource_lock.specs.Change.{make_all, holding_after, same_mark}
-use Rattle.resource_lock.specs.GraphView.{GraphView, action_of}
-use Rattle.resource_lock.specs.Opening.{opening_of}
-use Rattle.resource_lock.specs.Ranges.{task_with}
-use Rattle.resource_lock.specs.Shape.{BelongsTo}
-use Rattle.resource_lock.specs.StateView.{Holding, IsWorkerOf, StateView, holding_of, is_idle, is_parked, mark_of, runs_any, runs_by, runs_task, runs_unit}
-use Rattle.resource_lock.specs.declared.changes.Change.{Change}
-use Rattle.resource_lock.specs.declared.changes.Change.TheVariants.{Enter}
-use Rattle.resource_lock.specs.declared.ids.LockId.{LockId}
-use Rattle.resource_lock.specs.declared.ids.WorkerId.{WorkerId}
-use Rattle.resource_lock.specs.declared.marks.Mark.{Mark}
-use Rattle.resource_lock.specs.declared.marks.Mark.TheVariants.{Waiting, Running, Passed, Failed}
-use Rattle.resource_lock.specs.declared.marks.MarkId.{MarkId}
-use Rattle.resource_lock.specs.declared.marks.MarkId.TheVariants.{Task as TaskOf, Action as ActionOf, Unit as UnitOf}
+use Rattle.lock_journal.specs.Names.{make_all, holding_after, same_mark, GraphView, action_of, opening_of, task_with, BelongsTo, Holding, IsWorkerOf}
+use Rattle.lock_journal.specs.Names.{StateView, holding_of, is_idle, is_parked, mark_of, runs_any, runs_by, runs_task, runs_unit, Change, Enter}
+use Rattle.lock_journal.specs.Names.{LockId, WorkerId, Mark, Waiting, Running, Passed, Failed, MarkId, TaskOf, ActionOf, UnitOf, Allowed, Finishes}
+use Rattle.lock_journal.specs.Names.{IsKindOf, Lawful, lawful_from, Entry, changed, effect, replay, replay_from, condition, earlier_passed, mark_from}
+use Rattle.lock_journal.specs.Names.{owned, parked_locks, works_on, Kind, Start, Skip, Submit, Park, Resume, Claim, Close, Block, Unblock, End}
+use Rattle.lock_journal.specs.Names.{Acquire, HandBack, SameFor, action_at, claimed, places_from, task_at, unit_at, after_all}
 use Rattle.resource_lock.proofs.lemmas.Runs.{belongs_along, belongs_opening, same_shape-make_all, worker_from}
 use Rattle.resource_lock.proofs.lemmas.Undo.{same_mark_is, same_worker}
-use Rattle.lock_transforms.specs.Allowed.{Allowed, Finishes, IsKindOf, Lawful, lawful_from}
-use Rattle.lock_transforms.specs.Entry.{Entry, changed, effect, replay, replay_from}
-use Rattle.lock_transforms.specs.Table.{condition, earlier_passed, mark_from, owned, parked_locks, works_on}
-use Rattle.lock_transforms.specs.declared.entries.Kind.{Kind}
-use Rattle.lock_transforms.specs.declared.entries.Kind.TheVariants.{Start, Skip, Submit, Park, Resume, Claim, Close, Block, Unblock, End, Acquire, HandBack}
-use Rattle.lock_journal.specs.Own.{SameFor, action_at, claimed, places_from, task_at, unit_at}
-use Rattle.lock_journal.specs.OwnChanges.{after_all}
 use Rattle.lock_journal.proofs.Finished.{HasMoved, has_moved}
 use Rattle.lock_journal.proofs.Marks.{StaysOrMoves, stays_or_moves}
 use Rattle.lock_journal.proofs.Moves.{MayMove, list_moves}

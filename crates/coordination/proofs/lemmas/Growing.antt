@@ -4,14 +4,7 @@ use Rattle.std.proofs.lemmas.List.Sums.{sum_by-append}
 use Rattle.std.proofs.lemmas.List.{length-take-le, take_more}
 use Rattle.std.proofs.lemmas.Option.{get_or_from_slice_get, slice_get_within}
 use Rattle.std.specs.Prelude.{slice_get}
-use Rattle.resource_lock.specs.GraphView.{GraphView}
-use Rattle.resource_lock.specs.StateView.{StateView}
-use Rattle.resource_lock.specs.declared.ids.WorkerId.{WorkerId}
-use Rattle.lock_transforms.specs.Allowed.{Lawful}
-use Rattle.lock_transforms.specs.Entry.{Entry, replay}
-use Rattle.lock_journal.specs.BookView.{BookView}
-use Rattle.lock_journal.specs.ClosedBy.{closed_by}
-use Rattle.lock_journal.specs.Own.{NoneOf, SameFor}
+use Rattle.lock_journal.specs.Names.{GraphView, StateView, WorkerId, Lawful, Entry, replay, BookView, closed_by, NoneOf, SameFor}
 use Rattle.lock_journal.proofs.lemmas.Growing.{closed_by-own, same_by_own}
 use Rattle.coordination.specs.Agrees.{Agrees, IsSoundBook}
 use Rattle.coordination.specs.WorkerEntries.{last_in, last_of, entry_count_of}

@@ -4,26 +4,15 @@ use Rattle.std.proofs.Common.{◌≡◌, ◌≤◌, ℕ, zero, suc, ◌+◌, ◌
 use Rattle.std.specs.List.{AllByRecursion}
 use Rattle.std.proofs.lemmas.Bool.{and_parts, false≢true}
 use Rattle.std.proofs.lemmas.List.{length-take-le, length_push}
-use Rattle.resource_lock.specs.Change.{can, can_all, make, make_all, stands_last, without_last, NamesOnly}
-use Rattle.resource_lock.specs.GraphView.{GraphView, action_of}
-use Rattle.resource_lock.specs.Ranges.{actions_of, items_of, lock_with, units_of}
-use Rattle.resource_lock.specs.StateView.{Holding, IsWorkerOf, StateView, holding_of, is_owner}
-use Rattle.resource_lock.specs.declared.changes.Change.{Change}
-use Rattle.resource_lock.specs.declared.changes.Change.TheVariants.{Lock, Unlock, Take, Give, Move, Park as ParkLock, Unpark, Enter}
-use Rattle.resource_lock.specs.declared.graphs.Retention.{Retention}
-use Rattle.resource_lock.specs.declared.graphs.Retention.TheVariants.{Retain, Release, ReleaseAndReacquire}
-use Rattle.resource_lock.specs.declared.ids.LockId.{LockId}
-use Rattle.resource_lock.specs.declared.ids.WorkerId.{WorkerId}
-use Rattle.resource_lock.specs.declared.marks.Mark.{Mark}
-use Rattle.resource_lock.specs.declared.marks.Mark.TheVariants.{Waiting, Queued, Skipped}
-use Rattle.resource_lock.specs.declared.marks.MarkId.TheVariants.{Task as TaskOf, Action as ActionOf, Unit as UnitOf}
+use Rattle.lock_journal.specs.Names.{can, can_all, make, make_all, stands_last, without_last, NamesOnly, GraphView, action_of, actions_of, items_of}
+use Rattle.lock_journal.specs.Names.{lock_with, units_of, Holding, IsWorkerOf, StateView, holding_of, is_owner, Change, Lock, Unlock, Take, Give}
+use Rattle.lock_journal.specs.Names.{Move, ParkLock, Unpark, Enter, Retention, Retain, Release, ReleaseAndReacquire, LockId, WorkerId, Mark, Waiting}
+use Rattle.lock_journal.specs.Names.{Queued, Skipped, TaskOf, ActionOf, UnitOf, Finishes, IsListOf, locks_gained, list_of, moved_units, on_park}
+use Rattle.lock_journal.specs.Names.{on_resume, owned, owned_from, parked_locks, skipped_action, skipped_actions, skipped_waiting, taken_again}
+use Rattle.lock_journal.specs.Names.{taken_up, Kind, Start, Skip, Submit, Park, Resume, Claim, Close, Block, Unblock, End, Acquire, HandBack}
+use Rattle.lock_journal.specs.Names.{lock_before}
 use Rattle.resource_lock.proofs.lemmas.Runs.{all_named_along, same_shape-make, worker_along}
-use Rattle.lock_transforms.specs.Allowed.{Finishes, IsListOf}
-use Rattle.lock_transforms.specs.MostChanges.{locks_gained}
-use Rattle.lock_transforms.specs.Table.{list_of, moved_units, on_park, on_resume, owned, owned_from, parked_locks, set_down, skipped_action, skipped_actions, skipped_waiting, taken_again, taken_up}
-use Rattle.lock_transforms.specs.declared.entries.Kind.{Kind}
-use Rattle.lock_transforms.specs.declared.entries.Kind.TheVariants.{Start, Skip, Submit, Park, Resume, Claim, Close, Block, Unblock, End, Acquire, HandBack}
-use Rattle.lock_journal.specs.OwnChanges.{lock_before}
+use Rattle.lock_transforms.specs.Table.{set_down}
 use Rattle.lock_journal.proofs.lemmas.OwnChanges.{own_holding, own_locks}
 use Rattle.coordination.specs.Parts.{lock_total}
 use Rattle.coordination.proofs.lemmas.OnTheWay.{length_with}

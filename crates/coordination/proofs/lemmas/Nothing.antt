@@ -1,18 +1,10 @@
 -- A worker that owns and runs nothing.
 use Rattle.std.proofs.Common.{◌≡◌, ◌≢◌, ℕ, zero, suc, ◌+◌, Bool, true, false, cond, List, [], ◌∷◌, ◌++◌, length, map, get_or, Option, None, Some, refl, sym, ap, ◌∙◌, subst, arith}
 use Rattle.std.proofs.lemmas.Bool.{eq-eqb}
-use Rattle.resource_lock.specs.StateView.{StateView, is_owner, mark_of, owner_of, runs_by}
-use Rattle.resource_lock.specs.declared.ids.LockId.{LockId}
-use Rattle.resource_lock.specs.declared.ids.WorkerId.{WorkerId}
-use Rattle.resource_lock.specs.declared.marks.Mark.{Mark}
-use Rattle.resource_lock.specs.declared.marks.Mark.TheVariants.{Waiting, Running}
-use Rattle.resource_lock.specs.declared.marks.MarkId.{MarkId}
-use Rattle.resource_lock.specs.declared.marks.MarkId.TheVariants.{Task as TaskOf, Action as ActionOf, Unit as UnitOf}
-use Rattle.lock_journal.specs.BookView.{BookView}
-use Rattle.lock_transforms.specs.Table.{owned, owned_from}
-use Rattle.lock_journal.specs.Own.{action_at, claimed, marks_in, places_from, task_at, unit_at}
+use Rattle.lock_journal.specs.Names.{StateView, is_owner, mark_of, owner_of, runs_by, LockId, WorkerId, Mark, Waiting, Running, MarkId, TaskOf}
+use Rattle.lock_journal.specs.Names.{ActionOf, UnitOf, BookView, owned, owned_from, action_at, claimed, marks_in, places_from, task_at, unit_at}
+use Rattle.lock_journal.specs.Names.{IsAtRest}
 use Rattle.lock_journal.proofs.lemmas.Others.{running_of}
-use Rattle.resource_lock.specs.AtRest.{IsAtRest}
 use Rattle.coordination.specs.WorkerEntries.{last_of}
 use Rattle.coordination.specs.Parts.{ArePartsFrom, HasRoom, IsFreshPart, IsPartOf}
 use Rattle.coordination.specs.declared.parts.WorkerPart.{WorkerPart}

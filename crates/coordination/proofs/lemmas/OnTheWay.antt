@@ -4,24 +4,11 @@ use Rattle.std.specs.List.{AllByRecursion}
 use Rattle.std.proofs.lemmas.Bool.{and_parts}
 use Rattle.item_actions.specs.declared.outcomes.Outcome.{Outcome}
 use Rattle.item_actions.specs.declared.outcomes.Outcome.TheVariants as outcomes
-use Rattle.resource_lock.specs.Change.{can_all, make_all, NamesOnly}
-use Rattle.resource_lock.specs.GraphView.{GraphView}
-use Rattle.resource_lock.specs.Shape.{BelongsTo}
-use Rattle.resource_lock.specs.StateView.{IsWorkerOf, StateView, runs_by}
-use Rattle.resource_lock.specs.declared.changes.Change.{Change}
-use Rattle.resource_lock.specs.declared.changes.Change.TheVariants.{Lock, Move}
-use Rattle.resource_lock.specs.declared.ids.WorkerId.{WorkerId}
-use Rattle.resource_lock.specs.declared.marks.Mark.{Mark}
-use Rattle.resource_lock.specs.declared.marks.Mark.TheVariants.{Passed, Failed}
-use Rattle.resource_lock.specs.declared.marks.MarkId.{MarkId}
-use Rattle.resource_lock.specs.declared.marks.MarkId.TheVariants.{Task as TaskOf, Action as ActionOf, Unit as UnitOf}
+use Rattle.lock_journal.specs.Names.{can_all, make_all, NamesOnly, GraphView, BelongsTo, IsWorkerOf, StateView, runs_by, Change, Lock, Move, WorkerId}
+use Rattle.lock_journal.specs.Names.{Mark, Passed, Failed, MarkId, TaskOf, ActionOf, UnitOf, Finishes, IsKindOf, mark_from, Kind, Start, Skip, Submit}
+use Rattle.lock_journal.specs.Names.{Park, Resume, Claim, Close, Block, Unblock, End, Acquire, HandBack, claimed, after_all, claimed_after}
+use Rattle.lock_journal.specs.Names.{mark_before, with_if, with_member, without_if, without_member}
 use Rattle.resource_lock.proofs.lemmas.Runs.{all_named-append, can_all-append}
-use Rattle.lock_transforms.specs.Allowed.{Finishes, IsKindOf}
-use Rattle.lock_transforms.specs.Table.{mark_from}
-use Rattle.lock_transforms.specs.declared.entries.Kind.{Kind}
-use Rattle.lock_transforms.specs.declared.entries.Kind.TheVariants.{Start, Skip, Submit, Park, Resume, Claim, Close, Block, Unblock, End, Acquire, HandBack}
-use Rattle.lock_journal.specs.Own.{claimed}
-use Rattle.lock_journal.specs.OwnChanges.{after_all, claimed_after, mark_before, with_if, with_member, without_if, without_member}
 use Rattle.lock_journal.proofs.Marks.{AllMoves, AllMoves-weaker, MoveIs}
 use Rattle.lock_journal.proofs.Moves.{MayMove, list_moves}
 use Rattle.lock_journal.proofs.lemmas.OwnChanges.{own_claimed_all}

@@ -1,23 +1,12 @@
 -- What a pass shows after a call, by what it showed before.
 use Rattle.std.proofs.Common.{◌≡◌, Bool, true, false, List, refl, ap, ◌∙◌, subst}
-use Rattle.resource_lock.specs.Change.{holding_after}
-use Rattle.resource_lock.specs.StateView.{Holding, IsWorkerOf, StateView, holding_of}
-use Rattle.resource_lock.specs.declared.changes.Change.{Change}
-use Rattle.resource_lock.specs.declared.ids.LockId.{LockId}
-use Rattle.resource_lock.specs.declared.ids.WorkerId.{WorkerId}
-use Rattle.resource_lock.specs.declared.marks.MarkId.{MarkId}
+use Rattle.lock_journal.specs.Names.{holding_after, Holding, IsWorkerOf, StateView, holding_of, Change, LockId, WorkerId, MarkId, BookView, owned}
+use Rattle.lock_journal.specs.Names.{Kind, claimed, after_all, claimed_after, locks_after}
 use Rattle.resource_lock.proofs.lemmas.Runs.{worker_from}
-use Rattle.lock_journal.specs.BookView.{BookView}
-use Rattle.lock_transforms.specs.Table.{owned}
-use Rattle.lock_transforms.specs.declared.entries.Kind.{Kind}
-use Rattle.lock_journal.specs.Own.{claimed}
-use Rattle.lock_journal.specs.OwnChanges.{after_all, claimed_after, locks_after}
 use Rattle.lock_journal.proofs.lemmas.OwnChanges.{own_claimed_all, own_holding_all, own_locks_all}
+use Rattle.coordination.specs.Names.{Agrees, Cause, Making, HasFailed, HasFinished, HasLooked, IsAnswered, WasStopped, Shows, ShowsTheSame}
+use Rattle.coordination.specs.Names.{blocked_shown, claimed_shown, locks_shown}
 use Rattle.coordination.specs.declared.rule.Sight.{Sight}
-use Rattle.coordination.specs.Agrees.{Agrees}
-use Rattle.coordination.specs.Attempts.{Cause, Making}
-use Rattle.coordination.specs.Calls.{HasFailed, HasFinished, HasLooked, IsAnswered, WasStopped}
-use Rattle.coordination.specs.Shown.{Shows, ShowsTheSame, blocked_shown, claimed_shown, locks_shown}
 use Rattle.coordination.proofs.lemmas.Entries.{belongs_sound}
 
 -- The graph and the worker are the same, and the changes say what the worker has, owns and runs afterwards.

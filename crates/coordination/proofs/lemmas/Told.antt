@@ -1,8 +1,6 @@
 -- Answers that don't depend on what is offered.
-use Rattle.resource_lock.specs.declared.ids.WorkerId.{WorkerId}
-use Rattle.lock_journal.specs.BookView.{BookView}
-use Rattle.coordination.specs.Calls.{IsAnswered}
-use Rattle.coordination.specs.Offered.{AsTold, Telling}
+use Rattle.lock_journal.specs.Names.{WorkerId, BookView}
+use Rattle.coordination.specs.Names.{IsAnswered, AsTold, Telling}
 use Rattle.coordination.specs.declared.rule.Sight.{Sight}
 
 -- whatever the offers told, it is an answer of the book

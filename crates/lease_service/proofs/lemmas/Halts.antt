@@ -2,12 +2,10 @@
 use Rattle.std.proofs.Common.{◌≡◌, Bool, Result, Ok, Err, OnErr, refl, subst}
 use Rattle.std.specs.Result.{IsErrAnd}
 use Rattle.resource_lock.specs.declared.ids.WorkerId.{WorkerId}
+use Rattle.coordination.specs.Names.{Cause, HasLooked, WasStopped, ShowsTheSame}
 use Rattle.coordination.specs.declared.rule.Sight.{Sight}
 use Rattle.coordination.specs.declared.halts.Halt.{Halt}
 use Rattle.coordination.specs.declared.halts.Halt.TheVariants.{NoMemory, Stopped}
-use Rattle.coordination.specs.Attempts.{Cause}
-use Rattle.coordination.specs.Calls.{HasLooked, WasStopped}
-use Rattle.coordination.specs.Shown.{ShowsTheSame}
 use Rattle.coordination.proofs.lemmas.Shown.{looked_shows, stopped_shows}
 
 -- whichever way a call came to nothing, its worker has what it had

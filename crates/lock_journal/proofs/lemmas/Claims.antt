@@ -5,15 +5,9 @@ use Rattle.std.specs.Prelude.{Contains}
 use Rattle.std.specs.List.{list_any}
 use Rattle.std.proofs.lemmas.Bool.{cases_Bool, eq-eqb, eqb-true, false≢true, or_parts}
 use Rattle.std.proofs.lemmas.List.Folds.{list_any_at, list_any-append}
-use Rattle.resource_lock.specs.StateView.{StateView, holding_of, is_idle, is_owner, is_parked, mark_of, owns_any, runs_any, runs_by, runs_task, runs_unit}
-use Rattle.resource_lock.specs.declared.ids.LockId.{LockId}
-use Rattle.resource_lock.specs.declared.ids.WorkerId.{WorkerId}
-use Rattle.resource_lock.specs.declared.marks.Mark.TheVariants.{Waiting, Running}
-use Rattle.resource_lock.specs.declared.marks.MarkId.{MarkId}
-use Rattle.resource_lock.specs.declared.marks.MarkId.TheVariants.{Task as TaskOf, Action as ActionOf, Unit as UnitOf}
-use Rattle.lock_transforms.specs.Table.{owned, owned_from}
-use Rattle.lock_journal.specs.Own.{action_at, claimed, is_action, is_unit, places_from, task_at, unit_at}
-use Rattle.lock_journal.specs.OwnChanges.{with_member}
+use Rattle.lock_journal.specs.Names.{StateView, holding_of, is_idle, is_owner, is_parked, mark_of, owns_any, runs_any, runs_by, runs_task, runs_unit}
+use Rattle.lock_journal.specs.Names.{LockId, WorkerId, Waiting, Running, MarkId, TaskOf, ActionOf, UnitOf, owned, owned_from, action_at, claimed}
+use Rattle.lock_journal.specs.Names.{is_action, is_unit, places_from, task_at, unit_at, with_member}
 use Rattle.lock_journal.proofs.lemmas.Others.{running_of}
 
 -- a test of the marks of one kind

@@ -3,9 +3,7 @@ use Rattle.std.proofs.Common.{◌≡◌, ℕ, zero, suc, ◌+◌, ◌<◌, ◌�
 use Rattle.std.specs.List.{All}
 use Rattle.std.proofs.lemmas.Bool.{cases_lt, cases_order}
 use Rattle.std.proofs.lemmas.List.{get_or_past}
-use Rattle.resource_lock.specs.Fits.{Follow, Fits}
-use Rattle.resource_lock.specs.GraphView.{GraphView, no_task, no_action, task_of, action_of}
-use Rattle.resource_lock.specs.Ranges.{IsIn, IsActionOf, IsUnitOf, units_in}
+use Rattle.lock_journal.specs.Names.{Follow, Fits, GraphView, no_task, no_action, task_of, action_of, IsIn, IsActionOf, IsUnitOf, units_in}
 use Rattle.lock_journal.proofs.Ranges.{unit_range}
 
 -- the tasks' actions and the actions' units are ranges apart

@@ -5,27 +5,13 @@ use Rattle.std.specs.List.{All}
 use Rattle.std.proofs.lemmas.Bool.{ne_eqb}
 use Rattle.std.proofs.lemmas.List.Elements.{All-from_get_or}
 use Rattle.std.proofs.lemmas.List.Sums.{sum_by-append}
-use Rattle.resource_lock.specs.declared.changes.Change.{Change}
-use Rattle.resource_lock.specs.declared.ids.WorkerId.{WorkerId}
-use Rattle.resource_lock.specs.declared.marks.Mark.TheVariants.{Waiting}
-use Rattle.resource_lock.specs.declared.marks.MarkId.{MarkId}
-use Rattle.resource_lock.specs.declared.marks.MarkId.TheVariants.{Task as TaskOf}
-use Rattle.resource_lock.specs.Opening.{opening_of}
-use Rattle.resource_lock.specs.GraphView.{GraphView}
-use Rattle.resource_lock.specs.Shape.{SameShape}
-use Rattle.resource_lock.specs.StateView.{StateView, mark_of}
+use Rattle.lock_journal.specs.Names.{Change, WorkerId, Waiting, MarkId, TaskOf, opening_of, GraphView, SameShape, StateView, mark_of, Closed, Kind}
+use Rattle.lock_journal.specs.Names.{Allowed, Finishes, lawful_from, Lawful, closing_of, where_finished, closings, last_or, outcome_in, Entry}
+use Rattle.lock_journal.specs.Names.{changed, effect, replay_from, replay, closed_at, closed_by, faults_by, faults_in, IsEnded, NoneOf, SameFor}
 use Rattle.resource_lock.proofs.lemmas.Runs.{same_shape-make_all, same_shape-trans}
 use Rattle.item_actions.specs.declared.outcomes.Outcome.{Outcome}
 use Rattle.item_actions.specs.Value.{is_fault}
-use Rattle.lock_transforms.specs.declared.entries.Closed.{Closed}
-use Rattle.lock_transforms.specs.declared.entries.Kind.{Kind}
-use Rattle.lock_transforms.specs.Allowed.{Allowed, Finishes, lawful_from, Lawful}
-use Rattle.lock_journal.specs.Closings.{closing_of, where_finished, closings, last_or, outcome_in}
-use Rattle.lock_transforms.specs.Entry.{Entry, changed, effect, replay_from, replay}
 use Rattle.lock_journal.proofs.lemmas.Replays.{lawful_from-append, lawful_from-push, replay_from-append, replay_from-push}
-use Rattle.lock_journal.specs.ClosedBy.{closed_at, closed_by, faults_by, faults_in}
-use Rattle.lock_journal.specs.Marks.{IsEnded}
-use Rattle.lock_journal.specs.Own.{NoneOf, SameFor}
 use Rattle.lock_journal.proofs.Finished.{IsFinal, final_by}
 use Rattle.lock_journal.proofs.lemmas.Others.{others_after}
 

@@ -6,21 +6,10 @@ use Rattle.resource_lock.proofs.lemmas.Begins.{good_opening}
 use Rattle.resource_lock.proofs.lemmas.Counted.{moves}
 use Rattle.resource_lock.proofs.lemmas.Lists.{get_or-set_cases}
 use Rattle.resource_lock.proofs.lemmas.Runs.{belongs_opening}
-use Rattle.resource_lock.specs.Good.{Good}
-use Rattle.resource_lock.specs.Shape.{BelongsTo}
-use Rattle.resource_lock.specs.Change.{can, can_all, make, make_all, names_only}
-use Rattle.resource_lock.specs.Opening.{opening_of}
-use Rattle.resource_lock.specs.GraphView.{GraphView}
-use Rattle.resource_lock.specs.StateView.{StateView}
-use Rattle.resource_lock.specs.declared.changes.Change.{Change}
-use Rattle.resource_lock.specs.declared.changes.Change.TheVariants.{Lock, Unlock, Take, Give, Move, Park, Unpark, Enter, Leave}
-use Rattle.resource_lock.specs.declared.ids.WorkerId.{WorkerId}
-use Rattle.resource_lock.specs.declared.marks.Mark.{Mark}
-use Rattle.resource_lock.specs.declared.marks.Mark.TheVariants.{Waiting, Running}
-use Rattle.resource_lock.specs.declared.marks.MarkId.TheVariants.{Task as TaskOf, Action as ActionOf, Unit as UnitOf}
-use Rattle.lock_transforms.specs.declared.entries.Kind.{Kind}
-use Rattle.lock_transforms.specs.Allowed.{Finishes, lawful_from, Lawful}
-use Rattle.lock_transforms.specs.Entry.{Entry, changed, effect, replay_from, replay}
+use Rattle.lock_journal.specs.Names.{Good, BelongsTo, can, can_all, make, make_all, names_only, opening_of, GraphView, StateView, Change, Lock}
+use Rattle.lock_journal.specs.Names.{Unlock, Take, Give, Move, Unpark, Enter, Leave, WorkerId, Mark, Waiting, Running, TaskOf, ActionOf, UnitOf, Kind}
+use Rattle.lock_journal.specs.Names.{Finishes, lawful_from, Lawful, Entry, changed, effect, replay_from, replay}
+use Rattle.resource_lock.specs.declared.changes.Change.TheVariants.{Park}
 use Rattle.lock_journal.proofs.lemmas.Replays.{entries_good}
 use Rattle.lock_journal.specs.Own.{NamesWorkers}
 

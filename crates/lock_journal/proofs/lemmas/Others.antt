@@ -2,25 +2,14 @@
 use Rattle.std.proofs.Common.{◌≡◌, ◌≢◌, ℕ, ◌+◌, suc, length, true, Bool, cond, List, [], ◌∷◌, get_or, Option, Some, None, refl, sym, ap, ap₂, ◌∙◌, arith}
 use Rattle.std.specs.Prelude.{IfSome}
 use Rattle.std.proofs.lemmas.Bool.{and_parts, eqb-true, eq-eqb}
-use Rattle.resource_lock.specs.declared.changes.Change.{Change}
-use Rattle.resource_lock.specs.declared.ids.LockId.{LockId}
-use Rattle.resource_lock.specs.declared.ids.WorkerId.{WorkerId}
-use Rattle.resource_lock.specs.declared.marks.Mark.{Mark}
-use Rattle.resource_lock.specs.declared.marks.Mark.TheVariants.{Waiting, Running}
-use Rattle.resource_lock.specs.declared.marks.MarkId.{MarkId}
-use Rattle.resource_lock.specs.declared.marks.MarkId.TheVariants.{Task as TaskOf, Action as ActionOf, Unit as UnitOf}
-use Rattle.resource_lock.specs.Change.{can, make, make_all, can_all}
-use Rattle.resource_lock.specs.GraphView.{GraphView}
-use Rattle.resource_lock.specs.Shape.{SameShape}
-use Rattle.resource_lock.specs.StateView.{StateView, holding_of, is_owner, owns, mark_of, runs_by, runs_task, is_parked, runs_unit, owns_any}
+use Rattle.lock_journal.specs.Names.{Change, LockId, WorkerId, Mark, Waiting, Running, MarkId, TaskOf, ActionOf, UnitOf, can, make, make_all, can_all}
+use Rattle.lock_journal.specs.Names.{GraphView, SameShape, StateView, holding_of, is_owner, owns, mark_of, runs_by, runs_task, is_parked, runs_unit}
+use Rattle.lock_journal.specs.Names.{owns_any, Kind, Finishes, lawful_from, Entry, changed, effect, replay_from, SameFor, NoneOf, marks_in}
+use Rattle.lock_journal.specs.Names.{places_from}
 use Rattle.resource_lock.proofs.lemmas.Others.{others_keep}
 use Rattle.resource_lock.proofs.lemmas.Runs.{same_shape-make, same_shape-make_all, same_shape-trans}
 use Rattle.resource_lock.proofs.lemmas.Undo.{same_worker}
-use Rattle.lock_transforms.specs.declared.entries.Kind.{Kind}
-use Rattle.lock_transforms.specs.Allowed.{Finishes, lawful_from}
-use Rattle.lock_transforms.specs.Entry.{Entry, changed, effect, replay_from}
 use Rattle.lock_transforms.proofs.lemmas.Disabled.{any_same, owned_same}
-use Rattle.lock_journal.specs.Own.{SameFor, NoneOf, marks_in, places_from}
 
 -- place by place, what is the worker's is the same
 record SamePlaces (w : WorkerId) (s s' : StateView) : Type 0 where

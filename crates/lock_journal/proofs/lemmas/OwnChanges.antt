@@ -1,23 +1,16 @@
 -- What a worker's own change leaves of its locks and its marks.
 use Rattle.std.proofs.Common.{◌≡◌, ℕ, zero, suc, ◌+◌, ◌<◌, length, Bool, true, false, not, cond, ltb, lt-ltb, List, [], ◌∷◌, ◌++◌, map, get_or, set, Option, None, Some, refl, sym, ap, ◌∙◌, arith, append-nil}
 use Rattle.std.proofs.lemmas.Bool.{and_parts, eq-eqb, le-ltb}
-use Rattle.resource_lock.specs.Change.{can, can_all, make, make_all, holding_after, same_mark, names_only, NamesOnly}
-use Rattle.resource_lock.specs.StateView.{Holding, StateView, holding_of, is_owner, owner_of, mark_of, runs_by, IsWorkerOf}
-use Rattle.resource_lock.specs.declared.changes.Change.{Change}
-use Rattle.resource_lock.specs.declared.changes.Change.TheVariants.{Lock, Unlock, Take, Give, Move, Park, Unpark, Enter, Leave}
-use Rattle.resource_lock.specs.declared.ids.LockId.{LockId}
-use Rattle.resource_lock.specs.declared.ids.WorkerId.{WorkerId}
-use Rattle.resource_lock.specs.declared.marks.Mark.{Mark}
-use Rattle.resource_lock.specs.declared.marks.Mark.TheVariants.{Waiting}
-use Rattle.resource_lock.specs.declared.marks.MarkId.{MarkId}
-use Rattle.resource_lock.specs.declared.marks.MarkId.TheVariants.{Task as TaskOf, Action as ActionOf, Unit as UnitOf}
+use Rattle.lock_journal.specs.Names.{can, can_all, make, make_all, holding_after, same_mark, names_only, NamesOnly, Holding, StateView, holding_of}
+use Rattle.lock_journal.specs.Names.{is_owner, owner_of, mark_of, runs_by, IsWorkerOf, Change, Lock, Unlock, Take, Give, Move, Unpark, Enter, Leave}
+use Rattle.lock_journal.specs.Names.{LockId, WorkerId, Mark, Waiting, MarkId, TaskOf, ActionOf, UnitOf, owned_from, owned, action_at, claimed}
+use Rattle.lock_journal.specs.Names.{marks_in, places_from, task_at, unit_at, after_all, claimed_after, locks_after, lock_before, mark_before}
+use Rattle.lock_journal.specs.Names.{with_if, with_member, without_if, without_member}
+use Rattle.resource_lock.specs.declared.changes.Change.TheVariants.{Park}
 use Rattle.std.specs.List.{AllByRecursion}
 use Rattle.resource_lock.proofs.lemmas.Counted.{moves, none_owns}
 use Rattle.resource_lock.proofs.lemmas.Runs.{all_named_along, same_shape-make, worker_along}
 use Rattle.resource_lock.proofs.lemmas.Undo.{holding_now}
-use Rattle.lock_transforms.specs.Table.{owned_from, owned}
-use Rattle.lock_journal.specs.Own.{action_at, claimed, marks_in, places_from, task_at, unit_at}
-use Rattle.lock_journal.specs.OwnChanges.{after_all, claimed_after, locks_after, lock_before, mark_before, with_if, with_member, without_if, without_member}
 use Rattle.lock_journal.proofs.lemmas.Others.{running_of}
 
 not_below : (k n : ℕ) → n < suc k → ltb k n ≡ false

@@ -4,25 +4,11 @@ use Rattle.std.specs.Prelude.{IfSome, ◌&&◌, ◌==◌}
 use Rattle.std.specs.List.{range_with_len}
 use Rattle.std.proofs.lemmas.Bool.{and_parts, eq-eqb, eqb-true}
 use Rattle.std.proofs.lemmas.List.Folds.{Any-from_list_any}
-use Rattle.resource_lock.specs.Change.{same_mark}
-use Rattle.resource_lock.specs.Fits.{Fits}
-use Rattle.resource_lock.specs.GraphView.{GraphView, action_of}
-use Rattle.resource_lock.specs.Opening.{opening_of}
-use Rattle.resource_lock.specs.Ranges.{IsActionOf, IsFetchOf, IsUnitOf, task_with}
-use Rattle.resource_lock.specs.StateView.{StateView, mark_of, runs_by}
-use Rattle.resource_lock.specs.declared.changes.Change.{Change}
-use Rattle.resource_lock.specs.declared.ids.WorkerId.{WorkerId}
-use Rattle.resource_lock.specs.declared.marks.Mark.{Mark}
-use Rattle.resource_lock.specs.declared.marks.Mark.TheVariants.{Waiting, Running}
-use Rattle.resource_lock.specs.declared.marks.MarkId.{MarkId}
-use Rattle.resource_lock.specs.declared.marks.MarkId.TheVariants.{Task as TaskOf, Action as ActionOf, Unit as UnitOf}
+use Rattle.lock_journal.specs.Names.{same_mark, Fits, GraphView, action_of, opening_of, IsActionOf, IsFetchOf, IsUnitOf, task_with, StateView}
+use Rattle.lock_journal.specs.Names.{mark_of, runs_by, Change, WorkerId, Mark, Waiting, Running, MarkId, TaskOf, ActionOf, UnitOf, Finishes}
+use Rattle.lock_journal.specs.Names.{lawful_from, Lawful, Entry, changed, effect, replay_from, replay, condition, earlier_passed, works_on, Kind}
+use Rattle.lock_journal.specs.Names.{Skip, Submit, Park, Resume, Claim, Close, Block, Unblock, End, NoneOf}
 use Rattle.resource_lock.proofs.lemmas.Undo.{same_mark_is}
-use Rattle.lock_transforms.specs.Allowed.{Finishes, lawful_from, Lawful}
-use Rattle.lock_transforms.specs.Entry.{Entry, changed, effect, replay_from, replay}
-use Rattle.lock_transforms.specs.Table.{condition, earlier_passed, works_on}
-use Rattle.lock_transforms.specs.declared.entries.Kind.{Kind}
-use Rattle.lock_transforms.specs.declared.entries.Kind.TheVariants.{Skip, Submit, Park, Resume, Claim, Close, Block, Unblock, End}
-use Rattle.lock_journal.specs.Own.{NoneOf}
 use Rattle.lock_journal.proofs.lemmas.Fitting.{RangesApart, apart_of}
 use Rattle.lock_journal.proofs.lemmas.Replays.{lawful_from-append, replay_from-append}
 use Rattle.lock_journal.proofs.MarkConditions.{mark_condition}

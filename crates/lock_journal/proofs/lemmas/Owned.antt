@@ -3,10 +3,7 @@ use Rattle.std.proofs.Common.{◌≡◌, ◌≢◌, ℕ, zero, suc, ◌+◌, ◌
 use Rattle.std.proofs.Common.{Option, None, arith, refl, ap, ◌∙◌}
 use Rattle.std.specs.List.{filter, list_any}
 use Rattle.std.proofs.lemmas.Bool.{eq-eqb, false≢true, ne_eqb}
-use Rattle.resource_lock.specs.StateView.{StateView, is_owner, owns, owns_any, stands_in, IsLockOf}
-use Rattle.resource_lock.specs.declared.ids.LockId.{LockId}
-use Rattle.resource_lock.specs.declared.ids.WorkerId.{WorkerId}
-use Rattle.lock_transforms.specs.Table.{owned, owned_from}
+use Rattle.lock_journal.specs.Names.{StateView, is_owner, owns, owns_any, stands_in, IsLockOf, LockId, WorkerId, owned, owned_from}
 
 some_owned : (n : ℕ) (os : List (Option WorkerId)) (w : WorkerId) → owned_from n os w ≢ [] → list_any (λ o. is_owner o w) os ≡ true
 some_owned n [] w some = absurd (some refl)

@@ -4,22 +4,10 @@ use Rattle.std.proofs.Common.{◌≡◌, ◌<◌, ◌+◌, length, Option, None,
 use Rattle.std.specs.List.{All}
 use Rattle.std.proofs.lemmas.List.Elements.{All-push}
 use Rattle.resource_lock.proofs.lemmas.Runs.{belongs_along, kept_all, same_shape-make_all, worker_from}
-use Rattle.resource_lock.specs.Change.{make_all}
-use Rattle.resource_lock.specs.Good.{Good}
-use Rattle.resource_lock.specs.Shape.{BelongsTo}
-use Rattle.resource_lock.specs.declared.changes.Change.{Change}
-use Rattle.resource_lock.specs.declared.ids.WorkerId.{WorkerId}
-use Rattle.resource_lock.specs.StateView.{StateView}
-use Rattle.resource_lock.specs.GraphView.{GraphView}
-use Rattle.resource_lock.specs.Opening.{opening_of}
+use Rattle.lock_journal.specs.Names.{make_all, Good, BelongsTo, Change, WorkerId, StateView, GraphView, opening_of, Entry, changed, effect}
+use Rattle.lock_journal.specs.Names.{replay_from, replay, Allowed, Finishes, lawful_from, Lawful, Kind, IsFitKind, AreLastOrNone, IsSound, IsRoomFor}
 use Rattle.ready_work.specs.ReadyWork.{IsIndexOf}
-use Rattle.lock_transforms.specs.Entry.{Entry, changed, effect, replay_from, replay}
-use Rattle.lock_transforms.specs.Allowed.{Allowed, Finishes, lawful_from, Lawful}
-use Rattle.lock_transforms.specs.declared.entries.Kind.{Kind}
-use Rattle.lock_journal.specs.Bounds.{IsFitKind}
-use Rattle.lock_journal.specs.Book.{AreLastOrNone, IsSound}
 use Rattle.lock_journal.specs.declared.books.Book.TheInside.{Inside}
-use Rattle.lock_transforms.specs.MostChanges.{IsRoomFor}
 
 pub replay_from-push : (s : StateView) (h : List Entry) (e : Entry) → replay_from s (h ++ e ∷ []) ≡ effect (replay_from s h) e
 replay_from-push s [] e = refl

@@ -2,8 +2,7 @@
 use Rattle.std.proofs.Common.{◌≡◌, ℕ, zero, suc, ◌<◌, ◌≤◌, ◌+◌, ◌-◌, Bool, true, false, cond, ◌||◌, None, List, [], ◌∷◌, length, get_or, take, drop, Option, slice_range, refl, sym, ap, ◌∙◌, arith}
 use Rattle.std.specs.List.{list_any}
 use Rattle.std.proofs.lemmas.List.{length-take}
-use Rattle.resource_lock.specs.StateView.{is_owner}
-use Rattle.resource_lock.specs.declared.ids.WorkerId.{WorkerId}
+use Rattle.lock_journal.specs.Names.{is_owner, WorkerId}
 use Rattle.shared_services.specs.Services.{is_last_of, users_in}
 
 range_at : {X : Type 0} (xs : List X) (i n : ℕ) (d : X) → i < length xs → take (suc n) (drop i xs) ≡ get_or xs i d ∷ take n (drop (suc i) xs)

@@ -1,6 +1,5 @@
 use Rattle.std.proofs.Common.{rules, ◌∙◌, ap, Ok}
-use Rattle.resource_lock.specs.GraphView.{action_of}
-use Rattle.resource_lock.specs.Ranges.{lock_with}
+use Rattle.lock_journal.specs.Names.{action_of, lock_with}
 use Rattle.coordination.proofs.lemmas.Shown.{looked_shows, stopped_for, stopped_shows, surely_finished}
 use Rattle.async_tracker.proofs.lemmas.After.{halted, on_err}
 use Rattle.async_tracker.proofs.Parking.{not_queued, parked_by, parked_free, parked_shows, parked_waits}

@@ -1,6 +1,5 @@
 use Rattle.std.proofs.Common.{ap, ◌∙◌, Err}
-use Rattle.coordination.specs.Calls.{IsAnswered}
-use Rattle.coordination.specs.Offered.{AreTold, AsTold}
+use Rattle.coordination.specs.Names.{IsAnswered, AreTold, AsTold}
 use Rattle.coordination.proofs.lemmas.Told.{answered_anyhow}
 use Rattle.async_tracker.specs.Waits.{IsFirstOpen}
 use Rattle.async_tracker.proofs.lemmas.After.{if_ok}

@@ -1,6 +1,5 @@
 use Rattle.std.proofs.Common.{rules, subst}
-use Rattle.lock_transforms.specs.Allowed.{IsDisabled}
-use Rattle.lock_transforms.specs.declared.entries.Kind.TheVariants.{Resume}
+use Rattle.lock_journal.specs.Names.{IsDisabled, Resume}
 use Rattle.coordination.proofs.lemmas.Shown.{stopped_for}
 use Rattle.async_tracker.proofs.lemmas.Resumed.{cannot_resume, looked_none}
 use Rattle.async_tracker.proofs.resuming.go_on.Goals as goal

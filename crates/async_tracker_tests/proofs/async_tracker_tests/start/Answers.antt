@@ -1,6 +1,5 @@
 use Rattle.std.proofs.Common.{◌<◌, Ok, [], ◌∷◌, length, true, arith, sym, ap, ◌∙◌, subst}
-use Rattle.resource_lock.specs.GraphView.{GraphView, task_of}
-use Rattle.resource_lock.specs.declared.marks.MarkId.TheVariants.{Task as TaskOf}
+use Rattle.lock_journal.specs.Names.{GraphView, task_of, TaskOf}
 use Rattle.coordination.specs.Shown.{Shows}
 use Rattle.async_tracker.proofs.lemmas.After.{ok_is}
 use Rattle.async_tracker_tests.proofs.async_tracker_tests.start.Goals as goal

@@ -1,6 +1,5 @@
 use Rattle.std.proofs.Common.{Err, ap, sym, subst, ◌∙◌}
-use Rattle.resource_lock.specs.GraphView.{GraphView}
-use Rattle.resource_lock.specs.declared.marks.MarkId.TheVariants.{Unit as UnitOf}
+use Rattle.lock_journal.specs.Names.{GraphView, UnitOf}
 use Rattle.coordination.specs.Offered.{AsTold, WaitsAsTold}
 use Rattle.coordination.proofs.lemmas.Shown.{looked_shows}
 use Rattle.async_tracker.specs.Shows.{IsItemHere}

@@ -1,8 +1,6 @@
 use Rattle.std.proofs.Common.{rules, List, sym, subst}
 use Rattle.std.specs.Prelude.{Contains}
-use Rattle.resource_lock.specs.declared.marks.MarkId.{MarkId}
-use Rattle.resource_lock.specs.declared.marks.MarkId.TheVariants.{Unit as UnitOf}
-use Rattle.lock_journal.specs.OwnChanges.{mark_before}
+use Rattle.lock_journal.specs.Names.{MarkId, UnitOf, mark_before}
 use Rattle.coordination.specs.Shown.{claimed_shown}
 use Rattle.lock_journal.proofs.lemmas.Claims.{has_member}
 use Rattle.async_tracker_tests.proofs.closing_tests.run_first.Goals as goal

@@ -1,8 +1,5 @@
 use Rattle.std.proofs.Common.{rules, ◌≡◌, true, Ok, sym, ap, ◌∙◌, subst, Option, arith}
-use Rattle.lock_transforms.specs.declared.entries.Closed.{Closed}
-use Rattle.lock_transforms.specs.declared.entries.Kind.TheVariants.{Unblock}
-use Rattle.lock_transforms.specs.Allowed.{IsDisabled, IsFixedList}
-use Rattle.lock_transforms.specs.Taking.{rises}
+use Rattle.lock_journal.specs.Names.{Closed, Unblock, IsDisabled, IsFixedList, rises}
 use Rattle.coordination.specs.Calls.{HasFinished, WasStopped}
 use Rattle.coordination.proofs.lemmas.Shown.{stopped_for, stopped_shows, surely_finished}
 use Rattle.blocking_section.specs.BlockedView.{BlockedView}

@@ -1,8 +1,6 @@
 use Rattle.std.proofs.Common.{◌≡◌, [], ap, subst, sym, ◌∙◌}
-use Rattle.resource_lock.specs.GraphView.{GraphView}
+use Rattle.lock_journal.specs.Names.{GraphView, IsAtRest, BookView}
 use Rattle.coordination.specs.Sights.{workers_from}
-use Rattle.resource_lock.specs.AtRest.{IsAtRest}
-use Rattle.lock_journal.specs.BookView.{BookView}
 use Rattle.build_runner.proofs.AtFirst.{all_ready, all_untouched}
 use Rattle.build_runner.proofs.Begun.{IsBegun}
 use Rattle.build_runner.proofs.prepared.open_service.Goals as goal

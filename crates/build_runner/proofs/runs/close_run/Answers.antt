@@ -1,7 +1,6 @@
 use Rattle.std.proofs.Common.{ap, sym, subst, ◌∙◌}
 use Rattle.std.specs.Prelude.{IfSome}
-use Rattle.resource_lock.specs.GraphView.{GraphView}
-use Rattle.lock_journal.specs.BookView.{BookView}
+use Rattle.lock_journal.specs.Names.{GraphView, BookView}
 use Rattle.run_watch.specs.Watches.{AreWatchesOf}
 use Rattle.build_runner.specs.Watching.{IsSeenBy}
 use Rattle.build_runner.proofs.Watched.{board_is_seen, run_is_watched}

@@ -1,19 +1,11 @@
 use Rattle.std.proofs.Common.{◌≡◌, ◌<◌, ap, arith, sym, subst, ◌∙◌}
 use Rattle.std.specs.List.{All}
-use Rattle.resource_lock.specs.AtRest.{IsAtRest}
-use Rattle.resource_lock.specs.Fits.{Fits}
-use Rattle.resource_lock.specs.Good.{Good}
-use Rattle.resource_lock.specs.GraphView.{GraphView}
-use Rattle.lock_transforms.specs.Allowed.{Lawful}
-use Rattle.lock_journal.specs.BookView.{BookView}
-use Rattle.lock_transforms.specs.Entry.{Entry, replay}
-use Rattle.coordination.specs.Agrees.{Agrees}
-use Rattle.coordination.specs.Holds.{HoldsNothing}
+use Rattle.lock_journal.specs.Names.{IsAtRest, Fits, Good, GraphView, Lawful, BookView, Entry, replay, HasEnded}
+use Rattle.coordination.specs.Names.{Agrees, HoldsNothing}
 use Rattle.build_runner.specs.declared.prepared.OpenedRun.{OpenedRun}
 use Rattle.plan_reader.specs.Graph.{graph_of}
 use Rattle.plan_reader.specs.IsPlan.{dependencies}
 use Rattle.plan_reader.specs.Units.{plan_units}
-use Rattle.lock_journal.specs.Marks.{HasEnded}
 use Rattle.build_workers.specs.RunDesks.{known_by}
 use Rattle.build_workers.specs.Run.{depth}
 use Rattle.build_runner.proofs.AtTheEnd.{all_are_honest, all_ended, all_faults, all_requests, all_rest, all_there, closings_in, has_results}

@@ -1,8 +1,7 @@
 use Rattle.std.proofs.Common.{◌≡◌, ◌++◌, Box, List, Vec, ℕ, ◌<◌, drop, get_or, length, map, ap, sym, ◌∙◌, subst, arith}
 use Rattle.std.specs.List.{All}
 use Rattle.std.specs.declared.alloc.Global.{Global}
-use Rattle.resource_lock.specs.GraphView.{GraphView}
-use Rattle.lock_journal.specs.BookView.{BookView}
+use Rattle.lock_journal.specs.Names.{GraphView, BookView}
 use Rattle.coordination.specs.Passes.{PassView}
 use Rattle.build_runner.specs.declared.prepared.OpenedRun.{OpenedRun}
 use Rattle.plan_reader.specs.Units.{PlannedUnit, unit_view}

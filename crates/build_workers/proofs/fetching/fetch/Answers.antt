@@ -1,7 +1,6 @@
 use Rattle.std.proofs.Common.{◌≡◌, ◌<◌, ◌++◌, ℕ, [], List, Result, Ok, Err, Some, ap, subst, sym, true, ◌∙◌}
 use Rattle.std.specs.Prelude.{OnOk}
-use Rattle.resource_lock.specs.declared.ids.LockId.{LockId}
-use Rattle.resource_lock.specs.GraphView.{GraphView}
+use Rattle.lock_journal.specs.Names.{LockId, GraphView}
 use Rattle.coordination.specs.Shown.{locks_shown, parked_shown}
 use Rattle.coordination.specs.declared.rule.Sight.{Sight}
 use Rattle.blocking_section.specs.Sections.{HasSetDown, HasTakenUp}

@@ -1,6 +1,5 @@
 use Rattle.std.proofs.Common.{Some, ap, subst, ◌∙◌, Err}
-use Rattle.lock_transforms.specs.declared.entries.Kind.TheVariants.{Unblock}
-use Rattle.lock_transforms.specs.Allowed.{IsFixedList}
+use Rattle.lock_journal.specs.Names.{Unblock, IsFixedList}
 use Rattle.coordination.specs.Calls.{HasFinished}
 use Rattle.blocking_section.specs.Sections.{closed_with}
 use Rattle.build_workers.proofs.Keeping.{finished_closes, looked_closes, stopped_closes}

@@ -1,7 +1,6 @@
 use Rattle.std.proofs.Common.{subst, sym, true}
 use Rattle.resource_lock.specs.Fits.{Fits}
-use Rattle.coordination.specs.Offered.{AsTold}
-use Rattle.coordination.specs.Planned.{TellsOwn}
+use Rattle.coordination.specs.Names.{AsTold, TellsOwn}
 use Rattle.async_tracker.specs.NextWork.{IsNextWorkIf, step_of_next}
 use Rattle.async_tracker.proofs.lemmas.NextWork.{DecidesWork}
 use Rattle.build_workers.specs.Choices.{HasBegun}

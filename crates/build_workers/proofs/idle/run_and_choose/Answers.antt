@@ -1,12 +1,8 @@
 use Rattle.std.proofs.Common.{List, subst, sym}
 use Rattle.std.specs.Prelude.{Contains}
-use Rattle.resource_lock.specs.GraphView.{GraphView}
-use Rattle.resource_lock.specs.declared.marks.MarkId.{MarkId}
-use Rattle.resource_lock.specs.declared.marks.MarkId.TheVariants.{Unit as UnitOf}
-use Rattle.lock_journal.specs.OwnChanges.{mark_before}
+use Rattle.lock_journal.specs.Names.{GraphView, MarkId, UnitOf, mark_before}
 use Rattle.lock_journal.proofs.lemmas.Claims.{has_member}
-use Rattle.coordination.specs.Planned.{TellsOwn}
-use Rattle.coordination.specs.Shown.{claimed_shown}
+use Rattle.coordination.specs.Names.{TellsOwn, claimed_shown}
 use Rattle.async_tracker.specs.Shows.{IsItemHere, ShowsClosed}
 use Rattle.async_tracker.proofs.lemmas.NextWork.{DecidesWork}
 use Rattle.build_workers.specs.Choices.{HasBegun}

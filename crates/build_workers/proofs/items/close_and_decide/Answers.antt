@@ -1,6 +1,4 @@
-use Rattle.coordination.specs.Decisions.{HasDecided}
-use Rattle.coordination.specs.Offered.{AsTold}
-use Rattle.coordination.specs.Planned.{TellsOwn}
+use Rattle.coordination.specs.Names.{HasDecided, AsTold, TellsOwn}
 use Rattle.build_workers.proofs.Helping.{closed_alone, closed_in_vain}
 use Rattle.build_workers.proofs.lemmas.Results.{of_ok}
 use Rattle.build_workers.proofs.Stepping.{moves_then}

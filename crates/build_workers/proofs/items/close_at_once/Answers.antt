@@ -1,10 +1,7 @@
 use Rattle.std.proofs.Common.{Err, ap, ◌∙◌, subst, sym}
 use Rattle.std.specs.Prelude.{Contains, IfOk, OnErr}
 use Rattle.resource_lock.specs.declared.marks.MarkId.TheVariants.{Unit as UnitOf}
-use Rattle.coordination.specs.Decisions.{HasDecided}
-use Rattle.coordination.specs.Offered.{AsTold, WaitsAsTold}
-use Rattle.coordination.specs.Planned.{TellsOwn}
-use Rattle.coordination.specs.Shown.{claimed_shown}
+use Rattle.coordination.specs.Names.{HasDecided, AsTold, WaitsAsTold, TellsOwn, claimed_shown}
 use Rattle.build_workers.specs.Helping.{HasClosedBefore, MayHaveClosed}
 use Rattle.build_workers.proofs.Helping.{closed_before, may_have_closed}
 use Rattle.build_workers.proofs.Stepping.{moves_from, of_fields, to_fields, with_pass}

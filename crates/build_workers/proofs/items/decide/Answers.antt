@@ -1,8 +1,6 @@
 use Rattle.std.proofs.Common.{[]}
 use Rattle.std.specs.Prelude.{IfOk, OnErr}
-use Rattle.coordination.specs.Decisions.{HasDecided}
-use Rattle.coordination.specs.Offered.{AsTold, WaitsAsTold}
-use Rattle.coordination.specs.Planned.{TellsOwn}
+use Rattle.coordination.specs.Names.{HasDecided, AsTold, WaitsAsTold, TellsOwn}
 use Rattle.build_workers.specs.Kept.{HasClosed}
 use Rattle.build_workers.proofs.Helping.{vain_closes}
 use Rattle.build_workers.proofs.Stepping.{moves_from, of_fields, with_pass}

@@ -1,6 +1,4 @@
-use Rattle.coordination.specs.Decisions.{HasDecided}
-use Rattle.coordination.specs.Offered.{AsTold}
-use Rattle.coordination.specs.Planned.{TellsOwn}
+use Rattle.coordination.specs.Names.{HasDecided, AsTold, TellsOwn}
 use Rattle.build_workers.proofs.Helping.{broke_off, ran_before}
 use Rattle.build_workers.proofs.items.run_and_close.Goals as goal
 

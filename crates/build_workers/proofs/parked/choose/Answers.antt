@@ -1,8 +1,6 @@
 use Rattle.std.proofs.Common.{◌<◌, IfOk, length, subst, sym, true}
-use Rattle.resource_lock.specs.Fits.{Fits}
-use Rattle.resource_lock.specs.GraphView.{GraphView}
-use Rattle.coordination.specs.Offered.{AsTold}
-use Rattle.coordination.specs.Planned.{TellsOwn}
+use Rattle.lock_journal.specs.Names.{Fits, GraphView}
+use Rattle.coordination.specs.Names.{AsTold, TellsOwn}
 use Rattle.async_tracker.specs.NextWork.{IsNextParkedWorkIf, ShowsParkedWork, step_of_parked}
 use Rattle.async_tracker.proofs.lemmas.NextWork.{DecidesParked, parked_work_shows}
 use Rattle.build_workers.proofs.Keeping.{deciding_closes}

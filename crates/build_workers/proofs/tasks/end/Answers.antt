@@ -1,6 +1,5 @@
 use Rattle.std.proofs.Common.{◌<◌, length, subst, sym, true}
-use Rattle.resource_lock.specs.Fits.{Fits}
-use Rattle.resource_lock.specs.GraphView.{GraphView}
+use Rattle.lock_journal.specs.Names.{Fits, GraphView}
 use Rattle.build_workers.specs.Choices.{HasBegun}
 use Rattle.build_workers.specs.Points.{IsInTask}
 use Rattle.build_workers.specs.Site.{SiteView}

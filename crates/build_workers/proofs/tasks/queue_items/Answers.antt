@@ -1,15 +1,9 @@
 use Rattle.std.proofs.Common.{ℕ, ◌≡◌, ◌<◌, false, [], Result, Ok, Err, inl, inr, length, ap, arith, refl, subst, sym, true}
 use Rattle.std.specs.Prelude.{◌⊎◌, OnOk}
 use Rattle.std.specs.List.{list_any}
-use Rattle.resource_lock.specs.Fits.{Fits}
-use Rattle.resource_lock.specs.GraphView.{GraphView, action_of}
-use Rattle.resource_lock.specs.Ranges.{IsActionOf, lock_with}
-use Rattle.resource_lock.specs.declared.ids.WorkerId.{WorkerId}
-use Rattle.lock_journal.specs.Own.{is_unit}
+use Rattle.lock_journal.specs.Names.{Fits, GraphView, action_of, IsActionOf, lock_with, WorkerId, is_unit}
 use Rattle.lock_transforms.proofs.lemmas.Within.{task_fits}
-use Rattle.coordination.specs.Attempts.{Cause}
-use Rattle.coordination.specs.Calls.{HasLooked, WasStopped}
-use Rattle.coordination.specs.Shown.{claimed_shown}
+use Rattle.coordination.specs.Names.{Cause, HasLooked, WasStopped, claimed_shown}
 use Rattle.coordination.specs.declared.halts.Halt.{Halt}
 use Rattle.coordination.specs.declared.rule.Sight.{Sight}
 use Rattle.async_tracker.specs.Following.{HasParkedAtOnce}

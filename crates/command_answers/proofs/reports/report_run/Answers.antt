@@ -1,6 +1,5 @@
 use Rattle.std.proofs.Common.{List, ℕ, Bool, refl, subst}
-use Rattle.resource_lock.specs.Fits.{Fits}
-use Rattle.lock_journal.specs.BookView.{BookView}
+use Rattle.lock_journal.specs.Names.{Fits, BookView}
 use Rattle.build_workers.specs.RunDesks.{known_by}
 use Rattle.command_answers.specs.Answered.{have_all_passed, options_of, run_text}
 use Rattle.command_answers.specs.Reported.{IsReported}

@@ -1,10 +1,8 @@
 use Rattle.std.proofs.Common.{◌≡◌, ◌∙◌, List, ap, map, subst, sym}
 use Rattle.std.specs.List.{All}
-use Rattle.resource_lock.specs.AtRest.{IsAtRest}
+use Rattle.lock_journal.specs.Names.{IsAtRest, BookView}
 use Rattle.history_views.specs.ShownBooks.{IsTold}
-use Rattle.lock_journal.specs.BookView.{BookView}
-use Rattle.coordination.specs.Passes.{PassView, ServiceId}
-use Rattle.coordination.specs.Sights.{sights_from}
+use Rattle.coordination.specs.Names.{PassView, ServiceId, sights_from}
 use Rattle.coordination.proofs.openings.open_service.Goals as goal
 
 pub open_slot-requires-clause-rest : goal.open_slot-requires-clause-rest

@@ -1,9 +1,7 @@
 use Rattle.std.proofs.Common.{◌≡◌, List, ap, map, subst, sym}
 use Rattle.history_views.specs.ShownBooks.{IsTold}
-use Rattle.coordination.specs.Kept.{KeptView}
+use Rattle.coordination.specs.Names.{KeptView, PassView, sights_from}
 use Rattle.lock_journal.specs.BookView.{BookView}
-use Rattle.coordination.specs.Passes.{PassView}
-use Rattle.coordination.specs.Sights.{sights_from}
 use Rattle.coordination.proofs.Closing.{workers_first}
 use Rattle.coordination.proofs.FirstSights.{all_saw}
 use Rattle.coordination.proofs.openings.open_slot.Goals as goal

@@ -1,6 +1,5 @@
 use Rattle.std.proofs.Common.{◌<◌, length, ap, ◌∙◌, subst, sym}
-use Rattle.resource_lock.specs.GraphView.{GraphView, action_of, task_of}
-use Rattle.resource_lock.specs.declared.graphs.GraphAction.{GraphAction}
+use Rattle.lock_journal.specs.Names.{GraphView, action_of, task_of, GraphAction}
 use Rattle.coordination.proofs.parts.lock_given_back.Goals as goal
 
 pub action_of-waited-requires : goal.action_of-waited-requires

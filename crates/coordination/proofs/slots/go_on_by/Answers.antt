@@ -1,7 +1,6 @@
 use Rattle.std.proofs.Common.{◌<◌, length, subst, sym}
-use Rattle.lock_journal.specs.BookView.{BookView}
+use Rattle.lock_journal.specs.Names.{BookView, Kind}
 use Rattle.coordination.specs.Parts.{Follows, IsPartOf}
-use Rattle.lock_transforms.specs.declared.entries.Kind.{Kind}
 use Rattle.worker_choices.specs.GoingOn.{last_lets_go_on}
 use Rattle.coordination.specs.SleepAndWake.{EndsHold, GoesOn, has_entered, stance_after}
 use Rattle.coordination.proofs.TakenBooks.{entry_kept, follows}

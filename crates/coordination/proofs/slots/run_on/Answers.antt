@@ -1,8 +1,6 @@
 use Rattle.std.proofs.Common.{◌<◌, length, subst, sym}
-use Rattle.lock_journal.specs.BookView.{BookView}
-use Rattle.coordination.specs.Parts.{Follows, IsPartOf}
-use Rattle.lock_transforms.specs.declared.entries.Kind.{Kind}
-use Rattle.coordination.specs.SleepAndWake.{EndsHold, has_entered, stance_after}
+use Rattle.lock_journal.specs.Names.{BookView, Kind}
+use Rattle.coordination.specs.Names.{Follows, IsPartOf, EndsHold, has_entered, stance_after}
 use Rattle.coordination.proofs.TakenBooks.{entry_kept, follows}
 use Rattle.coordination.proofs.slots.run_on.Goals as goal
 

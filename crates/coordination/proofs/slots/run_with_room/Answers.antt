@@ -1,7 +1,5 @@
 use Rattle.std.proofs.Common.{◌≤◌, ℕ, length, rules, arith}
-use Rattle.lock_journal.specs.BookView.{BookView}
-use Rattle.lock_journal.specs.LastChanges.{last_changes}
-use Rattle.lock_transforms.specs.MostChanges.{locks_gained}
+use Rattle.lock_journal.specs.Names.{BookView, last_changes, locks_gained}
 use Rattle.coordination.proofs.PassSteps.{room_for_fewer}
 use Rattle.coordination.proofs.lemmas.LocksOnTheWay.{gained_by_fewer}
 use Rattle.coordination.proofs.TakenBooks.{ran_of}

@@ -1,13 +1,6 @@
 use Rattle.std.proofs.Common.{◌≡◌, true, List, [], ◌∷◌, ◌++◌, None, Some, sym, ap, ◌∙◌, subst}
-use Rattle.resource_lock.specs.Good.{Good}
-use Rattle.resource_lock.specs.GraphView.{GraphView}
-use Rattle.resource_lock.specs.StateView.{Holding, StateView, holding_of, owner_of}
-use Rattle.resource_lock.specs.Change.{holding_after, make_all}
-use Rattle.resource_lock.specs.declared.changes.Change.{Change}
-use Rattle.resource_lock.specs.declared.ids.WorkerId.{WorkerId}
-use Rattle.lock_transforms.specs.Entry.{Entry, entry, replay}
-use Rattle.lock_transforms.specs.declared.entries.Kind.TheVariants.{Start}
-use Rattle.lock_journal.specs.OwnChanges.{after_all}
+use Rattle.lock_journal.specs.Names.{Good, GraphView, Holding, StateView, holding_of, owner_of, holding_after, make_all, Change, WorkerId, Entry}
+use Rattle.lock_journal.specs.Names.{entry, replay, Start, after_all}
 use Rattle.coordination.specs.declared.rule.Sight.{Sight}
 use Rattle.coordination_tests.proofs.coordination_tests.try_start.Goals as goal
 

@@ -1,6 +1,5 @@
 use Rattle.std.proofs.Common.{◌↔◌, subst, sym}
-use Rattle.resource_lock.specs.GraphView.{GraphView}
-use Rattle.lock_transforms.specs.Allowed.{Lawful}
+use Rattle.lock_journal.specs.Names.{GraphView, Lawful}
 use Rattle.lock_journal.specs.PlainPlans.{WasLawful}
 use Rattle.history_check.specs.PlainPlans.{graph_before}
 use Rattle.history_check.proofs.PlainGraphs.{plain_graph}

@@ -1,6 +1,5 @@
 use Rattle.std.proofs.Common.{All, rules, subst, sym}
-use Rattle.lock_journal.specs.Marks.{HasEnded, IsEnded}
-use Rattle.resource_lock.specs.StateView.{StateView}
+use Rattle.lock_journal.specs.Names.{HasEnded, IsEnded, StateView}
 use Rattle.history_tests.proofs.history_text_tests.write.Goals as goal
 
 pub write_results-requires-clause-ended : goal.write_results-requires-clause-ended

@@ -1,6 +1,5 @@
 use Rattle.std.proofs.Common.{◌≡◌, ◌≤◌, ◌∙◌, ap, sym, subst, arith, length}
-use Rattle.resource_lock.specs.StateView.{leases_out}
-use Rattle.lock_journal.specs.BookView.{BookView}
+use Rattle.lock_journal.specs.Names.{leases_out, BookView}
 use Rattle.history_views.specs.Growing.{IsSound, MayFollow}
 use Rattle.history_views.proofs.ledgers.reach_of.Goals as goal
 

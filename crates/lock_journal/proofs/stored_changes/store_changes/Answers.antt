@@ -1,8 +1,6 @@
 use Rattle.std.proofs.Common.{◌++◌, List, [], ◌∷◌, length, map, take, sym, ap, ◌∙◌, append_assoc, arith}
 use Rattle.std.proofs.lemmas.List.{length-append, length-map, map_more, take_all}
-use Rattle.resource_lock.specs.declared.changes.Change.{Change}
-use Rattle.resource_lock.specs.declared.changes.Change.TheVariants.{Lock}
-use Rattle.lock_journal.specs.StoredChange.{stored_change}
+use Rattle.lock_journal.specs.Names.{Change, Lock, stored_change}
 use Rattle.lock_journal.specs.declared.stored_changes.StoredChange.{StoredChange}
 use Rattle.lock_journal.proofs.stored_changes.store_changes.Goals as goal
 

@@ -1,9 +1,5 @@
 use Rattle.std.proofs.Common.{sym, subst}
-use Rattle.resource_lock.specs.Fits.{Fits}
-use Rattle.lock_transforms.specs.Allowed.{Lawful}
-use Rattle.lock_transforms.specs.Entry.{replay}
-use Rattle.lock_journal.specs.BookView.{BookView}
-use Rattle.lock_journal.specs.Marks.{HasEnded}
+use Rattle.lock_journal.specs.Names.{Fits, Lawful, replay, BookView, HasEnded}
 use Rattle.std.proofs.Common.{◌≡◌, refl, length}
 use Rattle.planned_work.proofs.PlanRuns.{below, ended_in, in_range, ranked_in, ranks_of}
 use Rattle.planned_work.proofs.closing.close_plan.Goals as goal

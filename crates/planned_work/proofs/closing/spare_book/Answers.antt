@@ -1,8 +1,5 @@
 use Rattle.std.proofs.Common.{List, [], None, refl, sym, subst, arith}
-use Rattle.resource_lock.specs.Fits.{Fits}
-use Rattle.resource_lock.specs.GraphView.{GraphTaskView}
-use Rattle.resource_lock.specs.Made.{made_of}
-use Rattle.resource_lock.specs.declared.graphs.GraphAction.{GraphAction}
+use Rattle.lock_journal.specs.Names.{Fits, GraphTaskView, made_of, GraphAction}
 use Rattle.planned_work.proofs.closing.spare_book.Goals as goal
 
 least_fits : Fits (made_of 0 None 1 1 [] [])

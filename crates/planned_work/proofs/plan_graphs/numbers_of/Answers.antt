@@ -1,6 +1,5 @@
 use Rattle.std.proofs.Common.{◌++◌, List, map, sym, subst, ap, ◌∙◌}
-use Rattle.resource_lock.specs.Fits.{Fits}
-use Rattle.resource_lock.specs.GraphView.{GraphTaskView}
+use Rattle.lock_journal.specs.Names.{Fits, GraphTaskView}
 use Rattle.planned_work.specs.Numbers.{task_without_names}
 use Rattle.planned_work.proofs.UnitPlaces.{fits_without, made_without}
 use Rattle.planned_work.proofs.plan_graphs.numbers_of.Goals as goal

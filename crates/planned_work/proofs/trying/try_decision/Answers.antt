@@ -1,7 +1,5 @@
 use Rattle.std.proofs.Common.{sym, ap, ◌∙◌, subst, true}
-use Rattle.coordination.specs.Decisions.{DecideGives, HadStep}
-use Rattle.coordination.specs.Offered.{AsTold, WaitsAsTold}
-use Rattle.coordination.specs.Planned.{TellsOwn}
+use Rattle.coordination.specs.Names.{DecideGives, HadStep, AsTold, WaitsAsTold, TellsOwn}
 use Rattle.planned_work.specs.Trying.{DecisionLeaves, had_hold}
 use Rattle.planned_work.proofs.Held.{tried_held, wakes_at}
 use Rattle.planned_work.proofs.Tried.{tried_leaves, turned_graph}

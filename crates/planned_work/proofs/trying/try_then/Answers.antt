@@ -1,7 +1,5 @@
 use Rattle.std.proofs.Common.{sym, ap, ◌∙◌, subst, true}
-use Rattle.coordination.specs.Offered.{AsTold, WaitsAsTold}
-use Rattle.coordination.specs.Planned.{TellsOwn}
-use Rattle.coordination.specs.RunThenDecide.{FollowGives}
+use Rattle.coordination.specs.Names.{AsTold, WaitsAsTold, TellsOwn, FollowGives}
 use Rattle.planned_work.specs.Trying.{FollowLeaves, InBook, had_hold_behind}
 use Rattle.planned_work.proofs.Held.{behind_held, wakes_at}
 use Rattle.planned_work.proofs.Tried.{behind_leaves, never_failed, turned_graph}

@@ -1,8 +1,5 @@
 use Rattle.std.proofs.Common.{List, [], None, sym, subst, arith}
-use Rattle.resource_lock.specs.Fits.{Fits}
-use Rattle.resource_lock.specs.GraphView.{GraphTaskView}
-use Rattle.resource_lock.specs.Made.{made_of}
-use Rattle.resource_lock.specs.declared.graphs.GraphAction.{GraphAction}
+use Rattle.lock_journal.specs.Names.{Fits, GraphTaskView, made_of, GraphAction}
 use Rattle.shared_services.proofs.lemmas.Places.{few_locks}
 use Rattle.shared_services.proofs.NoTasks.{no_tasks_fit}
 use Rattle.shared_services.proofs.opening.graph_of.Goals as goal

@@ -1,10 +1,8 @@
 use Rattle.std.proofs.Common.{◌≡◌, ◌<◌, ◌≤◌, ◌+◌, ℕ, List, [], Vec, Ok, length, get_or, map, sym, ap, ◌∙◌, subst, arith}
 use Rattle.std.specs.List.{All}
 use Rattle.std.specs.declared.alloc.Global.{Global}
-use Rattle.resource_lock.specs.GraphView.{GraphView}
-use Rattle.lock_journal.specs.BookView.{BookView}
-use Rattle.coordination.specs.Passes.{PassView}
-use Rattle.coordination.specs.Sights.{workers_from}
+use Rattle.lock_journal.specs.Names.{GraphView, BookView}
+use Rattle.coordination.specs.Names.{PassView, workers_from}
 use Rattle.coordination.specs.declared.services.Opened.{Opened}
 use Rattle.coordination.proofs.lemmas.Numbered.{element}
 use Rattle.shared_services.specs.Done.{IsHonestJob, faults_of}

@@ -1,6 +1,5 @@
 use Rattle.std.proofs.Common.{sym, ap, ◌∙◌, subst}
-use Rattle.resource_lock.specs.Opening.{opening_of}
-use Rattle.resource_lock.specs.Shape.{BelongsTo}
+use Rattle.lock_journal.specs.Names.{opening_of, BelongsTo}
 use Rattle.resource_lock.proofs.lemmas.Runs.{belongs_opening}
 use Rattle.state_tests.specs.declared.indexed.Indexed.{Indexed}
 use Rattle.state_tests.proofs.indexed.open_index.Goals as goal

@@ -1,7 +1,6 @@
 -- the entry that is shown is the one that was admitted
 use Rattle.std.proofs.Common.{Some, ◌∙◌, ap, subst}
-use Rattle.lock_transforms.specs.Entry.{Entry, entry}
-use Rattle.lock_journal.specs.Admitting.{HasAdmitted, IsRefused}
+use Rattle.lock_journal.specs.Names.{Entry, entry, HasAdmitted, IsRefused}
 use Rattle.task_ordering.proofs.Lawfulness.{shown_failed, shown_finished}
 use Rattle.task_ordering.proofs.admitting.admit.Goals as goal
 

@@ -1,8 +1,7 @@
 use Rattle.std.proofs.Common.{◌≡◌, List, sym, subst, ◌∙◌}
 use Rattle.std.specs.Arc.{arc_value}
 use Rattle.lock_journal.specs.BookView.{BookView}
-use Rattle.coordination.specs.Closings.{IsClosedBy}
-use Rattle.coordination.specs.Passes.{PassView}
+use Rattle.coordination.specs.Names.{IsClosedBy, PassView}
 use Rattle.wakhurmi_c.specs.declared.handles.Handle.{Handle}
 use Rattle.wakhurmi_c.specs.declared.workers.Worker.{Worker}
 use Rattle.wakhurmi_c.proofs.Whole.{all_same, in_order, same_map}

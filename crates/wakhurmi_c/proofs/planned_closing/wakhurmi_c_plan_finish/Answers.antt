@@ -5,8 +5,7 @@ use Rattle.std.proofs.lemmas.List.{get_or-map as get_or-map-within}
 use Rattle.planned_work.specs.PlanRun.{HasSeenTheEnd, IsPlanRun}
 use Rattle.std.specs.Arc.{arc_value}
 use Rattle.lock_journal.specs.BookView.{BookView}
-use Rattle.coordination.specs.Closings.{IsClosedBy}
-use Rattle.coordination.specs.Passes.{PassView}
+use Rattle.coordination.specs.Names.{IsClosedBy, PassView}
 use Rattle.wakhurmi_c.specs.declared.planned_handles.PlannedHandle.{PlannedHandle}
 use Rattle.planned_work.specs.declared.workers.PlanWorker.{PlanWorker}
 use Rattle.wakhurmi_c.proofs.PlannedWhole.{all_same, in_order, same_map}

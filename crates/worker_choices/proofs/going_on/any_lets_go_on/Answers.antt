@@ -1,8 +1,7 @@
 use Rattle.std.proofs.Common.{refl, rules, tests}
 use Rattle.std.proofs.lemmas.Iterator.Consumers.{YieldsList-from_first}
 use Rattle.std.proofs.lemmas.Iterator.Search.{any_from_yields_List}
-use Rattle.lock_journal.specs.Changes.{changes_left}
-use Rattle.lock_transforms.specs.GoingOn.{lets_go_on}
+use Rattle.lock_journal.specs.Names.{changes_left, lets_go_on}
 use Rattle.worker_choices.proofs.going_on.any_lets_go_on.Goals as goal
 
 pub returns : goal.returns

@@ -1,10 +1,8 @@
 use Rattle.std.proofs.Common.{◌≡◌, ◌-◌, List, length, Option, None, Some, refl, ◌∙◌, ap}
 use Rattle.std.specs.Prelude.{slice_get}
 use Rattle.std.specs.List.{list_any}
-use Rattle.resource_lock.specs.declared.changes.Change.{Change}
-use Rattle.lock_transforms.specs.Entry.{Entry}
-use Rattle.lock_journal.specs.LastChanges.{last_changes, made_by, made_where_finished}
-use Rattle.lock_transforms.specs.GoingOn.{lets_go_on}
+use Rattle.lock_journal.specs.Names.{Change, Entry, last_changes, made_by, lets_go_on}
+use Rattle.lock_journal.specs.LastChanges.{made_where_finished}
 use Rattle.worker_choices.specs.GoingOn.{any_lets_go_on, entry_lets_go_on, last_lets_go_on}
 use Rattle.worker_choices.proofs.going_on.last_lets_go_on.Goals as goal
 

@@ -1,9 +1,7 @@
 use Rattle.std.proofs.Common.{◌≡◌, true, refl}
 use Rattle.std.proofs.lemmas.Bool.{false≢true}
+use Rattle.lock_journal.specs.Names.{Mark, Waiting, Queued, Running, Passed, Failed, Skipped, IsEnded}
 use Rattle.resource_lock.specs.Marks.{has_ended}
-use Rattle.resource_lock.specs.declared.marks.Mark.{Mark}
-use Rattle.resource_lock.specs.declared.marks.Mark.TheVariants.{Waiting, Queued, Running, Passed, Failed, Skipped}
-use Rattle.lock_journal.specs.Marks.{IsEnded}
 use Rattle.worker_choices.proofs.next_steps.all_ended.Goals as goal
 
 is_ended : (m : Mark) → has_ended m ≡ true → IsEnded m

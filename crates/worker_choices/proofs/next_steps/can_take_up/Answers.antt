@@ -1,6 +1,5 @@
 use Rattle.std.proofs.Common.{◌≡◌, true, subst, sym}
-use Rattle.resource_lock.specs.StateView.{StateView, IsLockOf, holding_of, stands_in}
-use Rattle.resource_lock.specs.declared.ids.LockId.{LockId}
+use Rattle.lock_journal.specs.Names.{StateView, IsLockOf, holding_of, stands_in, LockId}
 use Rattle.worker_choices.proofs.next_steps.can_take_up.Goals as goal
 
 -- a parked lock is one of the state

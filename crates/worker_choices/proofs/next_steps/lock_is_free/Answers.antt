@@ -1,7 +1,5 @@
 use Rattle.std.proofs.Common.{◌<◌, ap, arith, length, subst, sym}
-use Rattle.resource_lock.specs.GraphView.{GraphView}
-use Rattle.resource_lock.specs.declared.ids.LockId.{LockId}
-use Rattle.resource_lock.specs.StateView.{StateView}
+use Rattle.lock_journal.specs.Names.{GraphView, LockId, StateView}
 use Rattle.lock_transforms.proofs.lemmas.Within.{task_read}
 use Rattle.worker_choices.proofs.next_steps.lock_is_free.Goals as goal
 

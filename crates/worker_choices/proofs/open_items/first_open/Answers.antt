@@ -2,12 +2,7 @@ use Rattle.std.proofs.Common.{◌≡◌, ◌+◌, ℕ, Bool, true, false, refl, 
 use mir.Val.{bool_byte}
 use Rattle.std.specs.Prelude.{find}
 use Rattle.std.specs.List.{range_with_len}
-use Rattle.resource_lock.specs.GraphView.{GraphView, action_of}
-use Rattle.resource_lock.specs.Ranges.{fetches, first_item}
-use Rattle.resource_lock.specs.StateView.{StateView, mark_of}
-use Rattle.resource_lock.specs.declared.graphs.GraphAction.{GraphAction}
-use Rattle.resource_lock.specs.declared.marks.MarkId.TheVariants.{Unit as UnitOf}
-use Rattle.lock_transforms.specs.Table.{has_ended}
+use Rattle.lock_journal.specs.Names.{GraphView, action_of, fetches, first_item, StateView, mark_of, GraphAction, UnitOf, has_ended}
 use Rattle.worker_choices.proofs.OpenItems.{none_open_in_range, open_in_range}
 use Rattle.worker_choices.proofs.open_items.first_open.Goals as goal
 

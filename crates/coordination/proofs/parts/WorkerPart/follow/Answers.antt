@@ -1,9 +1,6 @@
 use Rattle.std.proofs.Common.{rules, ◌<◌, List, [], length, Ok, sym, ◌∙◌, subst}
-use Rattle.resource_lock.specs.Change.{make_all}
-use Rattle.resource_lock.specs.GraphView.{GraphView}
-use Rattle.resource_lock.specs.declared.ids.LockId.{LockId}
-use Rattle.resource_lock.specs.declared.changes.Change.{Change}
-use Rattle.lock_transforms.specs.declared.transforms.Disposition.TheVariants.{Finished, Failed}
+use Rattle.lock_journal.specs.Names.{make_all, GraphView, LockId, Change, Finished}
+use Rattle.lock_transforms.specs.declared.transforms.Disposition.TheVariants.{Failed}
 use Rattle.coordination.specs.Parts.{Follows, LeadsOn, started}
 use Rattle.coordination.specs.declared.parts.WorkerPart.{WorkerPart}
 use Rattle.coordination.proofs.Following.{room_behind}

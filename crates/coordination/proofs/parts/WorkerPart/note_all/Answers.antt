@@ -1,7 +1,5 @@
 use Rattle.std.proofs.Common.{List, [], sym, ◌∙◌, subst}
-use Rattle.resource_lock.specs.Change.{make_all}
-use Rattle.resource_lock.specs.declared.changes.Change.{Change}
-use Rattle.lock_journal.specs.Changes.{changes_left}
+use Rattle.lock_journal.specs.Names.{make_all, Change, changes_left}
 use Rattle.lock_journal.proofs.NextChanges.{all_given, next_change, no_change, one_more}
 use Rattle.coordination.specs.Parts.{LeadsOn}
 use Rattle.coordination.proofs.Following.{leads_along, room_for}

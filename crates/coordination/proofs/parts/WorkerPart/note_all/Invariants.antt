@@ -1,8 +1,6 @@
 -- the changes that are left lead on from those that were noted
 use Rattle.std.proofs.Common.{◌≡◌, ◌++◌}
-use Rattle.resource_lock.specs.Change.{make_all}
-use Rattle.resource_lock.specs.StateView.{StateView}
-use Rattle.lock_journal.specs.Changes.{changes_left}
+use Rattle.lock_journal.specs.Names.{make_all, StateView, changes_left}
 use Rattle.coordination.specs.Parts.{LeadsOn}
 use Rattle.coordination.proofs.parts.WorkerPart.note_all.Given as goal
 

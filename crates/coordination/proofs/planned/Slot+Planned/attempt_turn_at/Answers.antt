@@ -1,12 +1,10 @@
 use Rattle.std.proofs.Common.{◌≡◌, sym, subst}
 use Rattle.resource_lock.specs.declared.ids.WorkerId.{WorkerId}
+use Rattle.coordination.specs.Names.{sight_of, seeing, carried_book, TellsOwn, IsPartOf}
 use Rattle.coordination.specs.declared.rule.SeatView.{SeatView}
 use Rattle.coordination.specs.declared.rule.Sight.{Sight}
 use Rattle.history_views.specs.ShownBooks.{IsTold}
-use Rattle.coordination.specs.Sights.{sight_of, seeing}
-use Rattle.coordination.specs.Rule.{carried_book}
-use Rattle.coordination.specs.Planned.{HasEndedTry, TellsOwn}
-use Rattle.coordination.specs.Parts.{IsPartOf}
+use Rattle.coordination.specs.Planned.{HasEndedTry}
 use Rattle.coordination.proofs.TakenBooks.{known_in, part_in, sound_in, turn_after, turn_owns, turned}
 use Rattle.coordination.proofs.PassSteps.{closes_pass, untold_in}
 use Rattle.coordination.proofs.planned.Slot+Planned.attempt_turn_at.Goals as goal

@@ -1,8 +1,6 @@
 use Rattle.std.proofs.Common.{ap, sym, ◌∙◌, subst}
 use Rattle.resource_lock.specs.declared.ids.WorkerId.{WorkerId}
-use Rattle.coordination.specs.Calls.{AskedInVain}
-use Rattle.coordination.specs.Offered.{AreTold}
-use Rattle.coordination.specs.Passes.{PassView}
+use Rattle.coordination.specs.Names.{AskedInVain, AreTold, PassView}
 use Rattle.coordination.specs.Turns.{OnlyLooked}
 use Rattle.coordination.specs.declared.rule.Sight.{Sight}
 use Rattle.coordination.specs.declared.turns.Came.TheVariants as came

@@ -1,11 +1,9 @@
 use Rattle.std.proofs.Common.{◌≡◌, ◌∙◌, List, Option, Some, map, subst, sym}
 use Rattle.std.specs.List.{All}
 use Rattle.logbook.specs.Pages.{Book as Ledger}
-use Rattle.resource_lock.specs.AtRest.{IsAtRest}
-use Rattle.lock_journal.specs.BookView.{BookView}
+use Rattle.lock_journal.specs.Names.{IsAtRest, BookView}
 use Rattle.history_views.specs.Growing.{ReachView}
-use Rattle.coordination.specs.Passes.{PassView}
-use Rattle.coordination.specs.Sights.{sights_from}
+use Rattle.coordination.specs.Names.{PassView, sights_from}
 use Rattle.coordination.proofs.Closing.{length_first, workers_first}
 use Rattle.coordination.proofs.FirstSights.{all_rest, all_saw}
 use Rattle.coordination.proofs.shown_services.Coordination+O+ShownBook+R.open_with_views.Goals as goal

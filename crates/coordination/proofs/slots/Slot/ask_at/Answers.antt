@@ -1,10 +1,8 @@
 use Rattle.std.proofs.Common.{◌≡◌, ap, sym, subst}
+use Rattle.coordination.specs.Names.{AnswersWith, WaitsWith, sight_of, seeing, M, carried_book}
 use Rattle.coordination.specs.declared.rule.SeatView.{SeatView}
 use Rattle.lock_journal.specs.BookView.{BookView}
 use Rattle.history_views.specs.ShownBooks.{IsTold}
-use Rattle.coordination.specs.Offered.{AnswersWith, WaitsWith}
-use Rattle.coordination.specs.Sights.{sight_of, seeing}
-use Rattle.coordination.specs.Rule.{M, carried_book}
 use Rattle.coordination.proofs.TakenBooks.{keeps, after_ask, taken_book}
 use Rattle.coordination.proofs.PassSteps.{closes_pass, part_on, untold_in}
 use Rattle.coordination.proofs.slots.Slot.ask_at.Goals as goal

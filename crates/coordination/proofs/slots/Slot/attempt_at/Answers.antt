@@ -1,10 +1,8 @@
 use Rattle.std.proofs.Common.{◌≡◌, sym, subst}
 use Rattle.resource_lock.specs.declared.ids.WorkerId.{WorkerId}
+use Rattle.coordination.specs.Names.{sight_of, seeing, carried_book, IsPartOf}
 use Rattle.coordination.specs.declared.rule.SeatView.{SeatView}
 use Rattle.history_views.specs.ShownBooks.{IsTold}
-use Rattle.coordination.specs.Sights.{sight_of, seeing}
-use Rattle.coordination.specs.Rule.{carried_book}
-use Rattle.coordination.specs.Parts.{IsPartOf}
 use Rattle.coordination.proofs.TakenBooks.{after, attempted, known_in, owns, part_in, sound_in}
 use Rattle.coordination.proofs.PassSteps.{closes_pass, untold_in}
 use Rattle.coordination.proofs.slots.Slot.attempt_at.Goals as goal

@@ -1,7 +1,5 @@
 use Rattle.std.proofs.Common.{map, List, ap, ◌∙◌}
-use Rattle.coordination.specs.Kept.{KeptView}
-use Rattle.coordination.specs.Passes.{PassView}
-use Rattle.coordination.specs.Rule.{M}
+use Rattle.coordination.specs.Names.{KeptView, PassView, M}
 use Rattle.coordination.proofs.Closing.{closes, workers_all}
 use Rattle.coordination.proofs.Ended.{closed_by}
 use Rattle.coordination.proofs.slots.Slot.close.Goals as goal

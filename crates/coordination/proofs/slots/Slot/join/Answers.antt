@@ -2,10 +2,8 @@ use Rattle.std.proofs.Common.{rules, ◌≡◌, ◌+◌, ◌++◌, ◌∷◌, []
 use Rattle.std.specs.List.{All}
 use Rattle.std.proofs.Math.Seq.{get_or-append_seam}
 use Rattle.std.proofs.lemmas.Grind.{common_steps}
-use Rattle.coordination.specs.Passes.{PassView, view_in}
-use Rattle.coordination.specs.Sights.{all_of, one, sight_of}
+use Rattle.coordination.specs.Names.{PassView, view_in, all_of, one, sight_of, M}
 use Rattle.coordination.proofs.PassSteps.{lone_at}
-use Rattle.coordination.specs.Rule.{M}
 use Rattle.coordination.proofs.Seating.{sits_it, joins_it}
 use Rattle.coordination.proofs.slots.Slot.join.Goals as goal
 

@@ -1,8 +1,7 @@
 use Rattle.std.proofs.Common.{rules, sym, subst}
 use Rattle.atomic_table.specs.Table.{Allows, step}
 use mathlib.Core.Option.{none}
-use Rattle.coordination.specs.Sights.{sight_of}
-use Rattle.coordination.specs.Rule.{M, Orderly, carried_book, put_back}
+use Rattle.coordination.specs.Names.{sight_of, M, Orderly, carried_book, put_back}
 use Rattle.coordination.proofs.Moves.{puts_it}
 use Rattle.coordination.proofs.slots.Slot.let_go.Goals as goal
 

@@ -1,7 +1,6 @@
 use Rattle.std.proofs.Common.{List, [], ◌∷◌, subst, sym}
 use Rattle.atomic_table.specs.Table.{opening}
-use Rattle.coordination.specs.Kept.{KeptView, kept}
-use Rattle.coordination.specs.Rule.{Orderly}
+use Rattle.coordination.specs.Names.{KeptView, kept, Orderly}
 use Rattle.coordination.specs.Sights.{starting}
 use Rattle.coordination.proofs.Seating.{begins}
 use Rattle.coordination.proofs.slots.Slot.new.Goals as goal

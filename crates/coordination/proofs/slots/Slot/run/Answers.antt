@@ -1,7 +1,6 @@
 use Rattle.std.proofs.Common.{◌∷◌, ◌∙◌, ap, sym}
 use Rattle.atomic_table.specs.Table.{rest}
-use Rattle.coordination.specs.Kept.{kept}
-use Rattle.coordination.specs.Rule.{carried_book}
+use Rattle.coordination.specs.Names.{kept, carried_book}
 use Rattle.coordination.proofs.slots.Slot.run.Goals as goal
 
 pub slot_mut-kept-requires : goal.slot_mut-kept-requires

@@ -4,18 +4,16 @@ use Rattle.std.proofs.lemmas.List.Elements.{All-push}
 use Rattle.std.proofs.lemmas.List.{map-append}
 use Rattle.atomic_table.specs.Table.{Splits}
 use Rattle.lock_journal.specs.BookView.{BookView}
+use Rattle.coordination.specs.Names.{ArePartsFrom, IsPartOf, PassView, ServiceId, view_in, M, Orderly, sight, sight_of, all_of, one, sights_from}
 use Rattle.coordination.specs.declared.rule.Sight.{Sight}
 use Rattle.coordination.specs.declared.rule.SeatView.{SeatView}
 use Rattle.std.specs.Vec.Iter.{into_iter_items}
-use Rattle.coordination.specs.Parts.{ArePartsFrom, IsPartOf}
 use Rattle.coordination.specs.declared.parts.WorkerPart.{WorkerPart}
 use Rattle.history_views.specs.Growing.{ReachView}
 use Rattle.history_views.specs.ShownBooks.{IsTold}
-use Rattle.coordination.specs.Passes.{PassView, ServiceId, view_in}
 use Rattle.coordination.proofs.PassSteps.{at_badge, badge_is}
-use Rattle.coordination.specs.Rule.{M, Orderly, first_sight, other_sights}
+use Rattle.coordination.specs.Rule.{first_sight, other_sights}
 use Rattle.logbook.specs.Pages.{Book as Ledger}
-use Rattle.coordination.specs.Sights.{sight, sight_of, all_of, one, sights_from}
 use Rattle.coordination.proofs.Seating.{splits_it}
 use Rattle.coordination.proofs.slots.Slot.seated.Goals as goal
 

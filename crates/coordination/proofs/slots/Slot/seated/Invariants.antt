@@ -2,8 +2,7 @@
 use Rattle.std.proofs.Common.{◌≡◌, ◌≤◌, ◌++◌, ◌+◌, ◌-◌, [], length, map, All}
 use Rattle.std.specs.Prelude.{vec_capacity}
 use Rattle.std.specs.Vec.Iter.{into_iter_items}
-use Rattle.coordination.specs.Parts.{ArePartsFrom}
-use Rattle.coordination.specs.Sights.{all_of, sights_from}
+use Rattle.coordination.specs.Names.{ArePartsFrom, all_of, sights_from}
 use Rattle.coordination.proofs.slots.Slot.seated.Given as goal
 
 abbrev pub invariant-loop-part : goal.invariant-loop-part

@@ -3,9 +3,8 @@ use Rattle.std.proofs.lemmas.List.{length-map}
 use Rattle.atomic_table.specs.Table.{Allows, rest, step}
 use mathlib.Core.Option.{none}
 use Rattle.lock_journal.specs.BookView.{BookView}
-use Rattle.coordination.specs.Kept.{KeptView, kept}
-use Rattle.coordination.specs.Passes.{PassView}
-use Rattle.coordination.specs.Rule.{M, Orderly, carried_book, taken_for_good}
+use Rattle.coordination.specs.Names.{KeptView, kept, PassView, M, Orderly, carried_book}
+use Rattle.coordination.specs.Rule.{taken_for_good}
 use Rattle.coordination.proofs.Closing.{how_many, workers_all}
 use Rattle.coordination.proofs.Ended.{closed_by, of_own_graph}
 use Rattle.coordination.proofs.Taking.{carries, closes_taken, takes_for_good, workers_taken}

@@ -1,8 +1,7 @@
 use Rattle.std.proofs.Common.{rules, sym, subst}
 use Rattle.atomic_table.specs.Table.{Allows, step}
 use mathlib.Core.Option.{none}
-use Rattle.coordination.specs.Sights.{sight_of}
-use Rattle.coordination.specs.Rule.{M, Orderly, taken}
+use Rattle.coordination.specs.Names.{sight_of, M, Orderly, taken}
 use Rattle.coordination.proofs.Moves.{takes_or_waits}
 use Rattle.coordination.proofs.slots.Slot.take_or_wait.Goals as goal
 

@@ -2,8 +2,7 @@ use Rattle.std.proofs.Common.{rules, eqb, sym, subst}
 use prog.Atomic.{either}
 use Rattle.atomic_table.specs.Table.{Allows, step}
 use mathlib.Core.Option.{none}
-use Rattle.coordination.specs.Sights.{sight_of}
-use Rattle.coordination.specs.Rule.{M, Orderly, taken}
+use Rattle.coordination.specs.Names.{sight_of, M, Orderly, taken}
 use Rattle.coordination.proofs.Moves.{takes_it}
 use Rattle.coordination.proofs.slots.Slot.try_take.Goals as goal
 

@@ -1,7 +1,6 @@
 use Rattle.std.proofs.Common.{List, subst, sym}
 use Rattle.worker_choices.specs.declared.stances.Stance.{Stance}
-use Rattle.coordination.specs.Offered.{is_queued_in}
-use Rattle.coordination.specs.SleepAndWake.{AreQuiet}
+use Rattle.coordination.specs.Names.{is_queued_in, AreQuiet}
 use Rattle.coordination.proofs.Sleeping.{quiet_after}
 use Rattle.coordination.proofs.stances.Stances.wake_for.Goals as goal
 

@@ -1,7 +1,6 @@
 use Rattle.std.proofs.Common.{ap, inl, refl}
 use Rattle.coordination.proofs.Awake.{asked_awake}
-use Rattle.coordination.specs.Decisions.{awaits_if}
-use Rattle.coordination.specs.Offered.{AreTold, AsTold, WaitsAsTold}
+use Rattle.coordination.specs.Names.{awaits_if, AreTold, AsTold, WaitsAsTold}
 use Rattle.coordination.proofs.TurnKinds.{answered_left, answers_as_told, unanswered_left}
 use Rattle.coordination.proofs.Woken.{asked_woken}
 use Rattle.coordination.proofs.turns.AskTurn.act.Goals as goal

@@ -1,6 +1,5 @@
 use Rattle.std.proofs.Common.{inl, refl}
-use Rattle.coordination.specs.Decisions.{awaits_if}
-use Rattle.coordination.specs.Offered.{AreTold}
+use Rattle.coordination.specs.Names.{awaits_if, AreTold}
 use Rattle.coordination.proofs.Awake.{decided_awake}
 use Rattle.coordination.proofs.TurnKinds.{left_as_told}
 use Rattle.coordination.proofs.Woken.{decided_woken}

@@ -1,13 +1,9 @@
 use Rattle.std.proofs.Common.{Bool, ap, false, inl, inr, refl, ◌∙◌, subst, sym}
 use Rattle.resource_lock.specs.declared.ids.WorkerId.{WorkerId}
-use Rattle.coordination.specs.Decisions.{DecideGives, HadStep}
-use Rattle.coordination.specs.Offered.{AreTold, AsTold, WaitsAsTold}
+use Rattle.coordination.specs.Names.{DecideGives, HadStep, AreTold, AsTold, WaitsAsTold, FollowGives, HasLeft, awaits_if, HasWoken}
 use Rattle.coordination.specs.Parts.{IsPartHere}
-use Rattle.coordination.specs.RunThenDecide.{FollowGives}
-use Rattle.coordination.specs.Turns.{HasLeft}
 use Rattle.coordination.specs.declared.turns.Came.TheVariants as came
-use Rattle.coordination.specs.Decisions.{awaits_if}
-use Rattle.coordination.specs.SleepAndWake.{HasWoken, IsAwake}
+use Rattle.coordination.specs.SleepAndWake.{IsAwake}
 use Rattle.coordination.specs.declared.sleepers.Then.{Then}
 use Rattle.coordination.specs.declared.sleepers.Then.TheVariants.{Leaves}
 use Rattle.coordination.proofs.Awake.{decided_awake, stopped_awake}

@@ -2,13 +2,9 @@ use Rattle.std.proofs.Common.{◌≡◌, ◌≢◌, ◌⊎◌, length, Option, N
 use Rattle.std.proofs.lemmas.Bool.{cases_lt}
 use mathlib.Core.Logic.{dite}
 use native.Mathlib.Decide.{ℕ_discrete}
-use Rattle.resource_lock.specs.Change.{make}
-use Rattle.resource_lock.specs.StateView.{owner_of}
-use Rattle.resource_lock.specs.declared.ids.WorkerId.{WorkerId}
+use Rattle.lock_journal.specs.Names.{make, owner_of, WorkerId, IsDisabled, Start}
 use Rattle.resource_lock.proofs.lemmas.Undo.{same_worker}
 use Rattle.lock_transforms.proofs.lemmas.Disabled.{disabled_still}
-use Rattle.lock_transforms.specs.Allowed.{IsDisabled}
-use Rattle.lock_transforms.specs.declared.entries.Kind.TheVariants.{Start}
 use Rattle.coordination_tests.proofs.coordination_tests.TryStartTransform.waits_for_news.Goals as goal
 
 by_owner : (o : Option WorkerId) (w : WorkerId) → ((by : WorkerId) → by ≢ w → o ≢ Some by) ⊎ ((by : WorkerId) × (by ≢ w) × (o ≡ Some by))

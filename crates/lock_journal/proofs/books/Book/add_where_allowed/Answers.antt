@@ -1,14 +1,8 @@
 use Rattle.std.proofs.Common.{◌≡◌, List, [], ◌∷◌, ◌++◌, Some, inl, inr, refl, sym, ◌∙◌, ap, subst, arith}
-use Rattle.resource_lock.specs.GraphView.{GraphView}
-use Rattle.resource_lock.specs.StateView.{StateView}
-use Rattle.resource_lock.specs.declared.changes.Change.{Change}
-use Rattle.lock_transforms.specs.Allowed.{Allowed}
+use Rattle.lock_journal.specs.Names.{GraphView, StateView, Change, Allowed, BookView, last_changes, Entry, entry, effect}
 use Rattle.lock_journal.specs.Book.{FollowsEntry}
-use Rattle.lock_journal.specs.BookView.{BookView}
-use Rattle.lock_journal.specs.LastChanges.{last_changes}
 use Rattle.lock_journal.proofs.Given.{sound_forgotten}
 use Rattle.lock_journal.proofs.LastNoted.{last_pushed}
-use Rattle.lock_transforms.specs.Entry.{Entry, entry, effect}
 use Rattle.lock_transforms.proofs.lemmas.Rooms.{more_room}
 use Rattle.lock_journal.proofs.StoredChanges.{own_changes}
 use Rattle.lock_journal.proofs.lemmas.Replays.{Extends, sound_extended}

@@ -1,11 +1,6 @@
 use Rattle.std.proofs.Common.{◌≡◌, None, inl, sym, ◌∙◌, ap, subst, arith}
-use Rattle.resource_lock.specs.GraphView.{GraphView}
-use Rattle.resource_lock.specs.StateView.{StateView}
+use Rattle.lock_journal.specs.Names.{GraphView, StateView, IsKindOf, BookView, entry, TentativeView}
 use Rattle.ready_work.specs.ReadyWork.{IsIndexOf}
-use Rattle.lock_transforms.specs.Allowed.{IsKindOf}
-use Rattle.lock_journal.specs.BookView.{BookView}
-use Rattle.lock_transforms.specs.Entry.{entry}
-use Rattle.lock_transforms.specs.TentativeView.{TentativeView}
 use Rattle.lock_transforms.proofs.lemmas.Rooms.{more_room}
 use Rattle.lock_journal.proofs.lemmas.Replays.{Extends, sound_extended}
 use Rattle.lock_journal.proofs.books.Book.admit_failed.Goals as goal

@@ -1,9 +1,8 @@
 use Rattle.std.proofs.Common.{◌≡◌, true, ap, subst}
 use Rattle.std.specs.Prelude.{◌↔◌, IsTrue}
 use Rattle.std.specs.List.{All}
+use Rattle.lock_journal.specs.Names.{StateView, BookView}
 use Rattle.resource_lock.specs.Marks.{has_ended}
-use Rattle.resource_lock.specs.StateView.{StateView}
-use Rattle.lock_journal.specs.BookView.{BookView}
 use Rattle.lock_journal.proofs.books.Book.all_tasks_ended.Goals as goal
 
 pub returns : goal.returns

@@ -1,6 +1,5 @@
 use Rattle.std.proofs.Common.{subst}
-use Rattle.resource_lock.specs.GraphView.{GraphView}
-use Rattle.resource_lock.specs.StateView.{StateView}
+use Rattle.lock_journal.specs.Names.{GraphView, StateView}
 use Rattle.ready_work.specs.ReadyWork.{IsIndexOf}
 use Rattle.lock_journal.proofs.books.Book.keep_queued.Goals as goal
 

@@ -1,10 +1,7 @@
 -- where some are noted, they are those of the last entry
 use Rattle.std.proofs.Common.{◌≡◌, ◌==◌, List, [], length, sym, ◌∙◌, ap, subst}
 use Rattle.std.proofs.lemmas.Bool.{true≢false}
-use Rattle.resource_lock.specs.declared.changes.Change.{Change}
-use Rattle.lock_journal.specs.Book.{AreLastOrNone}
-use Rattle.lock_journal.specs.BookView.{BookView}
-use Rattle.lock_journal.specs.LastChanges.{last_changes}
+use Rattle.lock_journal.specs.Names.{Change, AreLastOrNone, BookView, last_changes}
 use Rattle.lock_journal.proofs.LastNoted.{last_noted}
 use Rattle.lock_journal.proofs.books.Book.last_changes.Goals as goal
 

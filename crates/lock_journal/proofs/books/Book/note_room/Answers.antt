@@ -1,6 +1,5 @@
 use Rattle.std.proofs.Common.{sym, subst}
-use Rattle.lock_journal.specs.Book.{IsSound}
-use Rattle.lock_journal.specs.HistoryView.{HistoryView}
+use Rattle.lock_journal.specs.Names.{IsSound, HistoryView}
 use Rattle.lock_journal.proofs.books.Book.note_room.Goals as goal
 
 -- the history is the same to contracts

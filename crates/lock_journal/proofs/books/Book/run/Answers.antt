@@ -1,20 +1,11 @@
 use Rattle.std.proofs.Common.{◌≡◌, ◌≢◌, ℕ, length, List, [], ◌∷◌, ◌++◌, Some, None, inl, inr, refl, ◌∙◌, sym, ap, subst, arith}
-use Rattle.resource_lock.specs.GraphView.{GraphView}
-use Rattle.resource_lock.specs.StateView.{StateView}
-use Rattle.resource_lock.specs.declared.changes.Change.{Change}
+use Rattle.lock_journal.specs.Names.{GraphView, StateView, Change, Kind, Finished, Entry, entry, effect, Allowed, IsFitKind, BookView, last_changes}
+use Rattle.lock_journal.specs.Names.{IsOwnChange}
 use Rattle.std.specs.List.{AllByRecursion}
 use Rattle.ready_work.specs.ReadyWork.{IsIndexOf}
-use Rattle.lock_transforms.specs.declared.entries.Kind.{Kind}
-use Rattle.lock_transforms.specs.declared.transforms.Disposition.TheVariants.{Finished}
-use Rattle.lock_transforms.specs.Entry.{Entry, entry, effect}
-use Rattle.lock_transforms.specs.Allowed.{Allowed}
-use Rattle.lock_journal.specs.Bounds.{IsFitKind}
-use Rattle.lock_journal.specs.BookView.{BookView}
-use Rattle.lock_journal.specs.LastChanges.{last_changes}
 use Rattle.lock_journal.proofs.Given.{sound_forgotten}
 use Rattle.lock_journal.proofs.LastNoted.{last_pushed}
 use Rattle.lock_transforms.proofs.lemmas.Rooms.{more_room}
-use Rattle.lock_journal.specs.StoredChange.{IsOwnChange}
 use Rattle.lock_journal.proofs.StoredChanges.{own_changes}
 use Rattle.lock_journal.proofs.lemmas.Replays.{Extends, sound_extended}
 use Rattle.lock_journal.proofs.books.Book.run.Given.{Over}

@@ -1,11 +1,7 @@
 use Rattle.std.proofs.Common.{◌≡◌, ◌-◌, length, sym, ◌∙◌, ap, subst, arith}
-use Rattle.resource_lock.specs.Fits.{Fits}
+use Rattle.lock_journal.specs.Names.{Fits, prefix_state, TentativeView, all_recalled, IsSound, BookView, changes_left}
 use Rattle.ready_work.specs.ReadyWork.{IsIndexOf}
-use Rattle.lock_transforms.specs.Entry.{prefix_state}
-use Rattle.lock_transforms.specs.TentativeView.{TentativeView, all_recalled, settled, with_state}
-use Rattle.lock_journal.specs.Book.{IsSound}
-use Rattle.lock_journal.specs.BookView.{BookView}
-use Rattle.lock_journal.specs.Changes.{changes_left}
+use Rattle.lock_transforms.specs.TentativeView.{settled, with_state}
 use Rattle.lock_journal.specs.declared.books.Book.TheInside.{Inside}
 use Rattle.lock_journal.specs.declared.shown_entries.Shown.{Shown}
 use Rattle.lock_journal.proofs.TakingBack.{back_noted, came_noted, closes_last, few_last, follows_noted, index_noted, left_noted, sound_before, state_before}

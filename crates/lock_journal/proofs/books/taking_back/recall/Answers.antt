@@ -1,7 +1,6 @@
 use Rattle.std.proofs.Common.{length, sym, ap, ◌∙◌, arith}
-use Rattle.lock_transforms.specs.TentativeView.{TentativeView, all_recalled}
+use Rattle.lock_journal.specs.Names.{TentativeView, all_recalled, changes_left}
 use Rattle.lock_transforms.proofs.lemmas.Recalled.{recalled_none, recalled_then}
-use Rattle.lock_journal.specs.Changes.{changes_left}
 use Rattle.lock_journal.proofs.NextChanges.{next_change, no_change}
 use Rattle.lock_journal.proofs.books.taking_back.recall.Goals as goal
 

@@ -1,7 +1,6 @@
 -- the changes that are left are noted behind those so far, and there is room for them
 use Rattle.std.proofs.Common.{◌≡◌, ◌≤◌, length}
-use Rattle.lock_transforms.specs.TentativeView.{all_recalled}
-use Rattle.lock_journal.specs.Changes.{changes_left}
+use Rattle.lock_journal.specs.Names.{all_recalled, changes_left}
 use Rattle.lock_journal.proofs.books.taking_back.recall.Given as goal
 
 abbrev pub invariant-loop-change : goal.invariant-loop-change

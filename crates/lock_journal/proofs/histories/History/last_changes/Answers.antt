@@ -1,6 +1,5 @@
 use Rattle.std.proofs.Common.{◌∙◌, ap}
-use Rattle.lock_journal.specs.HistoryView.{HistoryView}
-use Rattle.lock_journal.specs.LastChanges.{last_changes}
+use Rattle.lock_journal.specs.Names.{HistoryView, last_changes}
 use Rattle.lock_journal.proofs.Behind.{last_changes_behind, some_kept}
 use Rattle.lock_journal.proofs.histories.History.last_changes.Goals as goal
 

@@ -1,7 +1,5 @@
 use Rattle.std.proofs.Common.{List, ◌∙◌, ap}
-use Rattle.lock_transforms.specs.Entry.{Entry}
-use Rattle.lock_journal.specs.Closings.{outcome_in}
-use Rattle.lock_journal.specs.HistoryView.{HistoryView}
+use Rattle.lock_journal.specs.Names.{Entry, outcome_in, HistoryView}
 use Rattle.lock_journal.proofs.Behind.{all_kept}
 use Rattle.lock_journal.proofs.histories.History.outcome.Goals as goal
 

@@ -1,8 +1,6 @@
 use Rattle.std.proofs.Common.{◌≡◌, ◌-◌, length, take, ◌++◌, Option, sym, ◌∙◌, ap, subst}
 use Rattle.std.specs.Prelude.{IfSome, slice_get}
-use Rattle.lock_transforms.specs.Entry.{Entry}
-use Rattle.lock_journal.specs.Closings.{ClosesWithin}
-use Rattle.lock_journal.specs.HistoryView.{HistoryView}
+use Rattle.lock_journal.specs.Names.{Entry, ClosesWithin, HistoryView}
 use Rattle.lock_journal.proofs.Behind.{front_behind, last_behind, some_kept}
 use Rattle.lock_journal.proofs.histories.History.pop.Goals as goal
 

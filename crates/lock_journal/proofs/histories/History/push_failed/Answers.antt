@@ -1,7 +1,6 @@
 use Rattle.std.proofs.Common.{List, [], ◌∷◌, ◌++◌, None, sym, ◌∙◌, ap}
 use Rattle.std.proofs.lemmas.List.{append_assoc}
-use Rattle.lock_transforms.specs.Entry.{Entry, entry}
-use Rattle.lock_journal.specs.HistoryView.{HistoryView}
+use Rattle.lock_journal.specs.Names.{Entry, entry, HistoryView}
 use Rattle.lock_journal.proofs.histories.History.push_failed.Goals as goal
 
 pub returns-clause-entries : goal.returns-clause-entries

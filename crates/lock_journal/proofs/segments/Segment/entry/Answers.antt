@@ -1,14 +1,8 @@
 use Rattle.std.proofs.Common.{◌≡◌, ℕ, ◌<◌, ◌+◌, length, drop, List, [], Some, None, cond, sym, ◌∙◌, ap, arith}
 use Rattle.std.specs.Prelude.{map, slice_get}
 use Rattle.std.specs.List.{slice_range, slice_index_or}
-use Rattle.resource_lock.specs.declared.changes.Change.{Change}
-use Rattle.lock_transforms.specs.Entry.{entry}
-use Rattle.lock_journal.specs.Changes.{changes_left}
-use Rattle.lock_journal.specs.StoredChange.{change_of_worker}
-use Rattle.lock_journal.specs.StoredEntry.{end_before, kind_from}
-use Rattle.lock_journal.specs.Segment.{segment_view, IsSoundSegment}
-use Rattle.lock_journal.specs.SegmentView.{SegmentView}
-use Rattle.lock_transforms.specs.declared.entries.Kind.{Kind}
+use Rattle.lock_journal.specs.Names.{Change, entry, changes_left, change_of_worker, end_before, kind_from, segment_view, IsSoundSegment, SegmentView}
+use Rattle.lock_journal.specs.Names.{Kind}
 use Rattle.lock_journal.specs.declared.stored_changes.StoredChange.{StoredChange}
 use Rattle.lock_journal.specs.declared.stored_entries.StoredEntry.{StoredEntry}
 use Rattle.lock_journal.specs.declared.segments.Segment.TheInside.{Inside}

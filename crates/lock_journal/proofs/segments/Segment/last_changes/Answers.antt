@@ -2,10 +2,8 @@ use Rattle.std.proofs.Common.{◌≡◌, ◌-◌, length, List, [], Some, cond, 
 use Rattle.std.specs.Prelude.{map, slice_get}
 use Rattle.std.specs.List.{slice_range}
 use Rattle.std.specs.Option.{option_copied}
-use Rattle.lock_journal.specs.SegmentView.{SegmentView}
-use Rattle.lock_journal.specs.StoredChange.{change_of_worker}
+use Rattle.lock_journal.specs.Names.{SegmentView, change_of_worker, last_changes}
 use Rattle.lock_journal.specs.declared.stored_changes.StoredChange.{StoredChange}
-use Rattle.lock_journal.specs.LastChanges.{last_changes}
 use Rattle.lock_journal.specs.declared.stored_entries.StoredEntry.{StoredEntry}
 use Rattle.lock_journal.proofs.Stored.{last_made, last_starts}
 use Rattle.lock_journal.proofs.segments.Segment.last_changes.Goals as goal

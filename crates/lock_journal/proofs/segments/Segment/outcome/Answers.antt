@@ -1,11 +1,7 @@
 use Rattle.std.proofs.Common.{◌≡◌, ◌<◌, length, ◌∙◌, ap, arith}
 use Rattle.std.proofs.lemmas.List.{get_or_default, get_or_past}
 use Rattle.item_actions.specs.declared.outcomes.Outcome.TheVariants as outcomes
-use Rattle.lock_transforms.specs.declared.entries.Closed.{Closed}
-use Rattle.lock_journal.specs.Closings.{closings, last_or, outcome_in}
-use Rattle.lock_journal.specs.Segment.{segment_view}
-use Rattle.lock_journal.specs.SegmentView.{SegmentView}
-use Rattle.lock_journal.specs.StoredEntry.{closing_at, place_in}
+use Rattle.lock_journal.specs.Names.{Closed, closings, last_or, outcome_in, segment_view, SegmentView, closing_at, place_in}
 use Rattle.lock_journal.specs.declared.segments.TheConstants.{NOWHERE}
 use Rattle.lock_journal.specs.declared.segments.Segment.TheInside.{Inside}
 use Rattle.lock_journal.proofs.Pushed.{outcome_at_place}

@@ -2,11 +2,8 @@ use Rattle.std.proofs.Common.{◌≡◌, ℕ, ◌+◌, ◌-◌, length, take, dr
 use Rattle.std.specs.Vec.{with_items}
 use Rattle.std.specs.Prelude.{IfSome, slice_get, slice_index_or}
 use Rattle.std.proofs.lemmas.List.{with_items_is}
-use Rattle.lock_transforms.specs.Entry.{Entry}
-use Rattle.lock_journal.specs.Closings.{ClosesWithin}
-use Rattle.lock_journal.specs.Segment.{IsSoundSegment, segment_view}
-use Rattle.lock_journal.specs.SegmentView.{SegmentView}
-use Rattle.lock_journal.specs.StoredEntry.{AreStored, closings_until, end_before, entry_from, kind_from, place_by}
+use Rattle.lock_journal.specs.Names.{Entry, ClosesWithin, IsSoundSegment, segment_view, SegmentView, AreStored, closings_until, end_before}
+use Rattle.lock_journal.specs.Names.{entry_from, kind_from, place_by}
 use Rattle.lock_journal.specs.declared.segments.TheConstants.{NOWHERE}
 use Rattle.lock_journal.specs.declared.segments.Segment.TheInside.{Inside}
 use Rattle.lock_journal.specs.declared.stored_entries.StoredEntry.{StoredEntry}

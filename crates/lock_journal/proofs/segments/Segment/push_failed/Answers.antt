@@ -1,8 +1,6 @@
 use Rattle.std.proofs.Common.{[], ◌∷◌, ◌++◌, None, true, refl, sym, ◌∙◌, ap, arith}
 use Rattle.std.proofs.lemmas.List.{append-nil}
-use Rattle.lock_journal.specs.Closings.{closed_of}
-use Rattle.lock_transforms.specs.Entry.{entry}
-use Rattle.lock_journal.specs.SegmentView.{SegmentView}
+use Rattle.lock_journal.specs.Names.{closed_of, entry, SegmentView}
 use Rattle.lock_journal.specs.declared.segments.TheConstants.{NOWHERE}
 use Rattle.lock_journal.specs.declared.stored_entries.StoredEntry.{StoredEntry}
 use Rattle.lock_journal.specs.declared.segments.Segment.TheInside.{Inside}

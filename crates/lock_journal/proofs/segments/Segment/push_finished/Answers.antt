@@ -2,11 +2,8 @@ use Rattle.std.proofs.Common.{◌≡◌, ℕ, List, sym, refl, [], ◌∷◌, �
 use Rattle.std.specs.Vec.{with_items}
 use Rattle.std.specs.Prelude.{slice_index_or}
 use Rattle.std.proofs.lemmas.List.{with_items_is}
-use Rattle.lock_journal.specs.Closings.{closed_of, closing_of}
+use Rattle.lock_journal.specs.Names.{closed_of, closing_of, entry, Kind, SegmentView}
 use Rattle.lock_journal.specs.StoredEntry.{place_after}
-use Rattle.lock_transforms.specs.Entry.{entry}
-use Rattle.lock_transforms.specs.declared.entries.Kind.{Kind}
-use Rattle.lock_journal.specs.SegmentView.{SegmentView}
 use Rattle.lock_journal.specs.declared.segments.TheConstants.{NOWHERE}
 use Rattle.lock_journal.specs.declared.stored_entries.StoredEntry.{StoredEntry}
 use Rattle.lock_journal.specs.declared.segments.Segment.TheInside.{Inside}

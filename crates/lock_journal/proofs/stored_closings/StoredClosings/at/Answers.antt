@@ -3,9 +3,8 @@ use Rattle.std.proofs.Common.{◌≡◌, ◌<◌, ℕ, List, Some, length, refl,
 use Rattle.std.specs.Prelude.{slice_get}
 use Rattle.std.proofs.lemmas.List.{get_or-map, length-map}
 use Rattle.std.proofs.lemmas.Option.{slice_get_read}
-use Rattle.lock_journal.specs.StoredClosing.{IsDigestWithin, closing_from}
-use Rattle.lock_journal.specs.StoredClosings.{ClosingsView}
-use Rattle.lock_journal.specs.StoredEntry.{closing_at}
+use Rattle.lock_journal.specs.Names.{closing_from, ClosingsView, closing_at}
+use Rattle.lock_journal.specs.StoredClosing.{IsDigestWithin}
 use Rattle.lock_journal.specs.declared.stored_closings.StoredClosing.{StoredClosing}
 use Rattle.lock_journal.specs.declared.stored_closings.StoredClosings.TheInside.{Inside}
 use Rattle.lock_journal.proofs.Digests.{digest_there}

@@ -1,9 +1,8 @@
 -- one closing more
 use Rattle.std.proofs.Common.{ℕ, List, [], ◌∷◌, ◌++◌, length, map, sym, ap, ◌∙◌, subst, arith}
 use Rattle.std.proofs.lemmas.List.{map-append}
-use Rattle.lock_transforms.specs.declared.entries.Closed.{Closed}
-use Rattle.lock_journal.specs.StoredClosing.{AreDigestsFrom, closing_from, digest_of}
-use Rattle.lock_journal.specs.StoredClosings.{ClosingsView}
+use Rattle.lock_journal.specs.Names.{Closed, AreDigestsFrom, closing_from, ClosingsView}
+use Rattle.lock_journal.specs.StoredClosing.{digest_of}
 use Rattle.lock_journal.specs.declared.stored_closings.StoredClosing.{StoredClosing}
 use Rattle.lock_journal.specs.declared.stored_closings.StoredClosings.TheInside.{Inside}
 use Rattle.lock_journal.proofs.Digests.{closings_same, digests_push}

@@ -1,9 +1,7 @@
 use Rattle.std.proofs.Common.{ℕ, ◌≡◌, ◌+◌, ◌<◌, List, get_or, length, arith, refl, sym, subst, ap, ◌∙◌}
 use Rattle.std.specs.Bool.{then_some}
 use Rattle.std.specs.Prelude.{IfSome}
-use Rattle.resource_lock.specs.GraphView.{action_of, no_action}
-use Rattle.resource_lock.specs.Ranges.{fetches}
-use Rattle.resource_lock.specs.declared.graphs.GraphAction.{GraphAction}
+use Rattle.lock_journal.specs.Names.{action_of, no_action, fetches, GraphAction}
 use Rattle.resource_lock.proofs.lemmas.Units.{few_actions_in_all}
 use Rattle.planned_work.specs.Numbers.{IsActionAt, IsUnitAt}
 use Rattle.planned_work.proofs.UnitPlaces.{byte_is, fetch_there, item_there, place_shown, units_within}

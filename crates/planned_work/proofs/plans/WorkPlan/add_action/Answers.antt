@@ -1,8 +1,7 @@
 use Rattle.std.proofs.Common.{◌≡◌, false, ◌+◌, ◌≤◌, ◌<◌, ◌++◌, ◌∷◌, [], refl, ap, sym, subst, ◌∙◌, length, map, arith}
 use Rattle.std.specs.Prelude.{set}
 use Rattle.std.proofs.lemmas.List.{length-map}
-use Rattle.resource_lock.specs.Ranges.{fetches}
-use Rattle.resource_lock.specs.declared.limits.TheConstants.{MAX_UNITS}
+use Rattle.lock_journal.specs.Names.{fetches, MAX_UNITS}
 use Rattle.planned_work.specs.Plans.{IsWorkPlan, WorkPlanView, plan_view, planned_task_view, releases, task_in_plan, units_of_action, with_action}
 use Rattle.planned_work.proofs.PlanKept.{action_added, action_kept, task_same, task_there}
 use Rattle.planned_work.proofs.UnitPlaces.{byte_is}

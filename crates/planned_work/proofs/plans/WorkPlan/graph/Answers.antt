@@ -1,7 +1,6 @@
 use Rattle.std.proofs.Common.{◌≡◌, ◌≤◌, ℕ, List, None, refl, sym, ap, subst, ◌∙◌, arith}
 use Rattle.std.proofs.lemmas.Bool.{false≢true}
-use Rattle.resource_lock.specs.Fits.{Fits}
-use Rattle.resource_lock.specs.declared.limits.TheConstants.{MAX_UNITS}
+use Rattle.lock_journal.specs.Names.{Fits, MAX_UNITS}
 use Rattle.ready_work.specs.Rank.{InRange, IsFirstCycle, lists_of}
 use Rattle.planned_work.specs.Fitting.{IsPlanFit}
 use Rattle.planned_work.specs.Graphs.{actions_in, all_actions_from, graph_of_plan}

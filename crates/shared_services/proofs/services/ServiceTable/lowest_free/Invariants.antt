@@ -1,6 +1,5 @@
 use Rattle.std.proofs.Common.{◌≢◌, ◌<◌, ◌≤◌, None}
-use Rattle.resource_lock.specs.StateView.{owner_of}
-use Rattle.resource_lock.specs.declared.ids.LockId.{LockId}
+use Rattle.lock_journal.specs.Names.{owner_of, LockId}
 use Rattle.shared_services.proofs.services.ServiceTable.lowest_free.Given as goal
 
 -- the locks so far have owners
