@@ -28,8 +28,8 @@ builds. Not part of the gate.
 
     bench/c_interface.py [PROGRAM]
 
-Measured: a take and a hand-back of a lease take 145 to 203 ns of a processor alone, 3.7 to 4.2 times the plain mutex (goal 4), and 232 to
-320 ns with four threads, 0.7 to 1.7 times (goal 2.5); 916 instructions, and 28 bytes of history an entry. Where four threads work 5 or 20
+Measured: a take and a hand-back of a lease take 221 to 290 ns of a processor alone, 5.8 times the plain mutex by the medians (goal 4), and 367 to
+473 ns with four threads, 0.5 times (goal 2.5); 783 instructions, and 28 bytes of history an entry. Where four threads work 5 or 20
 microseconds between calls the mean of a call is at most 1.0 microseconds, and 999 in 1,000 take at most 80.
 """
 

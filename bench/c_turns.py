@@ -13,11 +13,10 @@ Not part of the gate.
 
 SECONDS is for each row, 3 where it isn't given.
 
-Measured with the proved part compiled without its proof, on four processors of a virtual machine, with no other work of its own: by a service the fewest
-rounds of a thread are 0.70 to 0.99 of the most, and no take waits longer than 21 ms; by mutexes 0.18 to 0.92, and 992 ms. With blocking sections 0.78 to
-0.99, and 40 ms. The ninth thread has 608 rounds where the others had at most 1,219, and waits 4 ms at most. A service makes 0.43 to 0.99 of the mutexes'
-rounds. A run of 2 seconds a row had 0.59 and 43 ms. In a third run, of 3 seconds, takes waited 400 ms and 163 ms, with 32 threads and 2 and 20
-microseconds, and a call of the rows with sections 105 ms; mutexes made 0.57 to 0.95 of their rounds there. Why isn't known.
+Measured with the proved archive in three runs on four processors of 2.5 GHz with no other work, of 2, 3 and 3 seconds a row: by a service the fewest
+rounds of a thread are 0.62 to 0.98 of the most, and no take waits longer than 77 ms; by mutexes 0.15 to 0.89, and 1.4 s. With blocking sections 0.70 to
+0.98, and 77 ms. The ninth thread has half as many rounds as the others have at most, and waits 20 ms at most. Of five earlier runs with an unproved
+archive one had takes that waited 400 ms. Why isn't known.
 """
 
 import pathlib

@@ -16,13 +16,14 @@ GNU time is missing.
 
 Where much else runs, `nice -n -10 bench/check_peer.py` keeps the turns from being held up.
 
-Measured: times the peer's processor time by a file 1.64, 1.37 and 1.20 at 9,600, 598,495 and 1,191,612 entries; in another run 1.56, 1.29 and
-1.27. Instructions an entry by a file 1,811 and 1,764; the peer's 1,457 and 1,579. Peak 2.0 MB at 64 MiB, as the peer's. 2,400 judged texts had
-the same answers (seed 1135). By pipes 480 had those of the program before, and behind each lawful one all that followed stayed (seed 7).
+Measured, on four processors with no other work: times the peer's processor time by a file 1.28, 1.19 and 1.18 at 9,600, 598,495 and 1,191,612 entries, by
+a pipe 4.26, 4.00 and 3.68 (goal 3). Instructions an entry by a file 1,815 and 1,790, by a pipe 2,732 and 2,344; the peer's 1,457 and 1,579. Peak 2.0 MB
+at 64 MiB, as the peer's. 1,600 judged texts had the same answers (seed 2059805964). By pipes 480 had those of the program before, and behind each lawful
+one all that followed stayed (seed 7).
 
 By a pipe `check` takes no byte behind the text, so it asks for no more than the text surely still has: 5.6 and 3.5 reads an entry, 7.5 and 5.8
 before it counted on the shortest line of an entry. Side by side in an unproved build, while other work ran: processor time 874 ms before, 635
-since, at 598,495 entries, where a file takes 200 and the peer 138. Times the peer's, in a whole run: 6.77, 5.55 and 4.21 (goal 3). Of the 635 ms
+since, at 598,495 entries, where a file takes 200 and the peer 138. Of the 635 ms
 435 are reads: 205 ns each, 135 of them the system's. Of 230 instructions a read 62 add the bytes to the line, 53 look for its end, 48 are
 the source's, and 45 the loop's, which says how many to ask for.
 

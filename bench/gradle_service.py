@@ -20,12 +20,11 @@ What the two do differently:
 For each row it prints nanoseconds by the clock and of processors that a round takes, work included, and the fewest rounds of a thread by the most. A row
 is behind where ours takes more than Gradle's by the clock or of processors, and uneven where the fewest rounds of a thread are less than half the most.
 
-Measured with the proved part compiled without its proof, medians of three runs of 0.8 seconds, on four processors that fifteen other processes
-wanted too: ours takes less by the clock and of processors in all 48 rows, 0.02 to 0.97 of Gradle's. The fewest rounds of a thread are 0.31 to 1.00 of
-the most, below a half in five rows of 32 threads; Gradle's 0.00 to 1.00, below a half in 19. Gradle's times suffer more from the others. Beside five,
-eleven of the rows: 327 to 379 ns by the clock where Gradle's takes 707 to 890, with 1 to 8 threads that do nothing with locks of their own; with 32 of
-these 743 ns of processors where Gradle's takes 651, and lets a thread have none; with 8 threads, two locks and 2 microseconds 2,193 by the clock and
-3,333 of processors where Gradle's takes 3,354 and 3,575. Four leases for 32 threads: 0.23 to 0.77, Gradle's at most 0.03.
+Measured with the proved archive, medians of three runs of 0.8 seconds, on four processors of 2.5 GHz with no other work: ours is ahead in 37 of 48 rows. Ten
+rows of 4 to 32 threads and work of 20 microseconds or less take 1.02 to 1.9 times Gradle's time of processors; two of these are behind by the clock too, two locks
+with 4 threads and 2 microseconds (4,820 and 3,413 ns) and with 8 and 20 (14,582 and 13,331). One row, 32 threads on two locks without work, is uneven: 0.47. In all
+others the fewest rounds of a thread are 0.52 to 1.00 of the most; Gradle's are 0.00 to 1.00, below a half in 14. With locks of their own and no work 1 to 8
+threads take 341 to 388 ns by the clock, where Gradle's takes 964 to 1,783.
 
 The archive is that of WAKHURMI, a folder that c/build.sh has filled, or made here, which proves crates/wakhurmi_c where that is still to be done. Not
 part of the gate.

@@ -6,8 +6,8 @@ Makes its own plans and files in a temporary folder, and prints one line a plan.
 
     bench/runs.py [PROGRAM [ITEMS..]]
 
-Measured: instructions a unit: 48,126 with 1,024 items in as many tasks, 48,247 with 2,048, 34,298 with 4,096 in 2,048 tasks, 26,997 with
-8,192; a transform 769 to 790; peak 7.8 MB. 8 and 64 names in `after`: a unit without the plan's reading 16,105 and 20,184. An entry is
+Measured: instructions a unit: 48,023 with 1,024 items in as many tasks, 48,144 with 2,048, 34,238 with 4,096 in 2,048 tasks, 26,957 with
+8,192; a transform 754 to 772; peak 7.8 MB. 8 and 64 names in `after`: a unit without the plan's reading 15,981 and 20,060. An entry is
 printed in 422 to 446. `lines` over 64 files of 4 MiB takes 0.44 a byte.
 """
 

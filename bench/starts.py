@@ -6,8 +6,8 @@ Makes its files in a temporary folder. Not part of the gate. Skips, with status 
 
     bench/starts.py [PROGRAM]
 
-Measured: refused words 194,232 instructions, 160,973 of them the loader's; a run of one task 292,848: 161,841 the loader, 84,162 the C
-library, 13,644 words, 11,997 the plan, 21,204 all else (goal 200,000).
+Measured: refused words 194,246 instructions, 160,987 of them the loader's; a run of one task 292,910: 161,841 the loader, 84,350 the C
+library, 13,644 words, 11,997 the plan, 21,078 all else (goal 200,000).
 
 The loader's are out of reach here: 103,000 relocate, mostly for 52 symbols, which the kit's link has bound at the start. So all else would have to
 take 38,000 in place of 131,000. By callgrind, with what each calls (an unproved build that released its memory, 316,254): `leases_cli::top::run`
