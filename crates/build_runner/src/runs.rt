@@ -91,9 +91,11 @@ fn close_service<R: Wait>(
     every_run_comes_to_its_plan();
     honest_workers_give_the_answers();
     lawful_histories_lead_to_good_states();
+    // Of the plan, that its units' files have their form.
     let _ = plan.tasks();
     let OpenedRun { service, passes } = Box::into_inner(opened);
     let book = service.finish(passes);
+    // Of the book, that its graph fits and that its state is good.
     let _ = book.graph();
     let _ = book.state();
     book
