@@ -4,9 +4,9 @@
     bench/plant.py [--minutes N] [--crate-minutes N] [--max N] [--jobs N] --since COMMIT | --all | CRATE..
 
 --since takes the crates whose contracts (specs, clauses, signatures) aren't those of a commit. `rt plant` begins with a check of the
-crate, over the libraries below it. These are taken from what the gate kept on this machine, so the gate must have proved the
-crates as they stand here: a crate over others of which nothing is kept is named at the end and left alone, and so is one for which
-the time (an hour, if --minutes isn't given) doesn't suffice. The crates that are proved soonest come first. Each is tried for at
+crate, over the libraries below it. These are taken from what the launcher built here (`launch/build.py --prove CRATE`), or else from what
+the gate kept on this machine. So one of them must have proved the crates as they stand here: a crate over others of which nothing is
+kept is named at the end and left alone, and so is one for which the time (an hour, if --minutes isn't given) doesn't suffice. The crates that are proved soonest come first. Each is tried for at
 most --crate-minutes (10) behind its first check, with at most --max (400) wrong bodies.
 
 Each crate is tried in a folder of its own beside the system's other temporary ones. The repository is only read. Not part of the
@@ -87,19 +87,31 @@ def make_room(room: pathlib.Path, names: List[str], planted: str) -> None:
         shutil.copytree(TOP / "crates" / planted / CHECKED, room / "crates" / planted / CHECKED)
 
 
+def built_by_the_launcher(crate) -> Optional[pathlib.Path]:
+    """What the launcher built of a crate in this checkout, if that is of the same text."""
+    folder = TOP / "crates" / crate.name / beside.STATEMENTS
+    stamp = folder / "stamp"
+    return folder if stamp.is_file() and stamp.read_text().split(" ")[0] == crate.stamp() else None
+
+
 def give_libraries(rt: types.ModuleType, room: pathlib.Path, name: str) -> None:
-    """Gives each crate below one the library that the gate made of the same text."""
+    """Gives each crate below one the library that the launcher, or else the gate, made of the same text."""
     rt.Crate.allowed = rt.handles_of(str(room))
     rt.rtlib.listed.cache_clear()
-    crates = rt.crates_of(str(room))
-    kept = rt.Kept(crates)
-    for crate in crates:
-        if crate.name == name:
-            continue
-        if not kept.give(crate, False, kept.key(crate)):
+    every = rt.crates_of(str(room))
+    below = [crate for crate in every if crate.name != name]
+    built = [built_by_the_launcher(crate) for crate in below]
+    kept = rt.Kept(every)
+    for crate, folder in zip(below, built):
+        to = pathlib.Path(crate.folder) / "out/rlib"
+        # A library fits those that it was built over, so all are of the launcher or none is.
+        if folder is not None and None not in built:
+            shutil.copytree(folder, to)
+        elif kept.give(crate, False, kept.key(crate)):
+            kept.is_built(crate)
+        else:
             raise NotKept(crate.name)
-        kept.is_built(crate)
-        (pathlib.Path(crate.folder) / "out/rlib/stamp").write_text(crate.stamp())
+        (to / "stamp").write_text(crate.stamp())
 
 
 def plant(room: pathlib.Path, name: str, given: argparse.Namespace, seconds: float) -> Optional[str]:
