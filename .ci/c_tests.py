@@ -240,6 +240,29 @@ class BuildTests(unittest.TestCase):
     def test_the_proved_library_may_be_named_from_the_callers_folder(self) -> None:
         self.assert_well(self.build("named", WAKHURMI_PROVED="proved.a", CDPATH="/"))
 
+    def test_the_proved_library_is_built_where_the_sources_changed(self) -> None:
+        top, kit = self.above / "a checkout", self.above / "another kit"
+        shutil.copytree(self.above / "kit", kit)
+        for folder in ("c", "launch"):
+            shutil.copytree(TOP / folder, top / folder)
+        source = top / "crates/wakhurmi_c/src/lib.rt"
+        source.parent.mkdir(parents=True)
+        (top / "crates.txt").write_text("wakhurmi_c staticlib:\n")
+        builds = self.above / "builds"
+        (kit / "bin/rt").write_text(f"#!/bin/sh\necho \"$*\" >>'{builds}'\nmkdir -p out\ncp '{self.above}/proved.a' out/libwakhurmi_c.a\n")
+        env = {**self.env, "PATH": f"{kit}/bin:{os.environ['PATH']}"}
+        del env["WAKHURMI_PROVED"]
+        for text, wanted in (("first", 1), ("first", 1), ("second", 2)):
+            source.write_text(text)
+            ran = run([str(top / "c/build.sh"), "built"], cwd=self.above, env=env)
+            self.assertEqual((ran.returncode, builds.read_text().count("lib ")), (0, wanted), ran.stdout)
+        (kit / "bin/rt").write_text("#!/bin/sh\nexit 1\n")
+        source.write_text("third")
+        ran = run([str(top / "c/build.sh"), "failed"], cwd=self.above, env=env)
+        self.assertEqual(ran.returncode, 126, ran.stdout)
+        self.assertIn("crate wakhurmi_c is not proved", ran.stdout)
+        self.assertFalse((self.above / "failed/libwakhurmi.a").exists())
+
     def test_all_names_that_are_exported_begin_alike(self) -> None:
         self.assert_well(self.build("names"))
         told = run(["nm", "-g", "--defined-only", str(self.above / "names/libwakhurmi.a")]).stdout
@@ -294,9 +317,6 @@ class InterfaceTests(unittest.TestCase):
         cls.folder = pathlib.Path(tempfile.mkdtemp(prefix="c-interface-"))
         cls.addClassCleanup(shutil.rmtree, cls.folder, ignore_errors=True)
         cls.made = cls.folder / "a b&c|d"
-        if "WAKHURMI_PROVED" not in os.environ:
-            # On all processors: c/build.sh proves one crate after the other. It tells what isn't proved.
-            subprocess.run([sys.executable, TOP / "launch/build.py", "--prove", "wakhurmi_c"], check=False)
         subprocess.run([TOP / "c/build.sh", cls.made, "-Werror"], check=True)
 
     def said_by(self, words: List[str], **how: object) -> str:

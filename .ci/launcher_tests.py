@@ -1,5 +1,6 @@
 #!/usr/bin/env python3
-"""Tests of the launchers `leases` and `picture`, on small checkouts with a stand-in for `rt`, which builds a program in no time.
+"""Tests of the launchers `leases` and `picture`, on small checkouts with a stand-in for `rt`, which builds a program in no time, and a few with
+the kit's `rt`.
 
 The stand-in's program prints the text of crates/leases/src/main.rt and its words, and ends with the status that its
 first word names. Each call of the stand-in leaves a line in the file `calls`. What it does beside that a test says by
@@ -12,6 +13,7 @@ import re
 import shutil
 import signal
 import subprocess
+import sys
 import tempfile
 import time
 import unittest
@@ -36,6 +38,9 @@ run)
 esac
 """
 
+# How a file of the kit's language begins.
+HEAD = "//! A test.\n#![tactic(auto)]\n\n"
+
 # A build that waits until the test lets it go on, and notes where another works beside it.
 WAITS = """
 mkdir "$here/working" || touch "$here/beside"
@@ -47,6 +52,9 @@ rmdir "$here/working"
 
 class Checkout:
     """A checkout of two crates in a folder of its own, with a stand-in for `rt` beside it."""
+
+    # How long a call may take.
+    seconds = 60
 
     def __init__(self, name: str = "checkout") -> None:
         self.above = pathlib.Path(tempfile.mkdtemp(prefix="launcher-"))
@@ -81,7 +89,7 @@ class Checkout:
         return {"cwd": self.above, "env": env, "text": True, "stdout": subprocess.PIPE, "stderr": subprocess.PIPE, **more}
 
     def call(self, *words: str, launcher: object = None, **more: object) -> subprocess.CompletedProcess:
-        return subprocess.run([str(launcher or self.top / "leases"), *words], timeout=60, check=False, **self.how(**more))
+        return subprocess.run([str(launcher or self.top / "leases"), *words], timeout=self.seconds, check=False, **self.how(**more))
 
     def start(self, *words: str, **more: object) -> subprocess.Popen:
         return subprocess.Popen([str(self.top / "leases"), *words], **self.how(**more))
@@ -95,6 +103,9 @@ class Checkout:
                     os.kill(int(process.name), signal.SIGKILL)
             except (FileNotFoundError, ProcessLookupError):
                 pass
+
+    def build(self, *words: str) -> None:
+        subprocess.run([sys.executable, "-B", self.top / "launch/build.py", *words], timeout=self.seconds, check=True, **self.how())
 
     def builds(self) -> int:
         calls = self.bin / "calls"
@@ -370,6 +381,15 @@ class LauncherTests(unittest.TestCase):
         self.assertNotIn("other", ran.stderr)
         self.assertIn("other", (it.top / "out/leases.log").read_text())
 
+    def test_a_build_for_another_processor_takes_the_programs_place(self) -> None:
+        it = self.checkout()
+        it.call()
+        it.instead('[ "$1" = lib ] || echo "for $5" >src/main.rt')
+        it.build("--cpu", "x86-64-v3", "leases", "leases")
+        it.main.write_text("first\n")
+        self.assert_ran(it.call(), "for x86-64-v3\n")
+        self.assertEqual(it.builds(), 2)
+
     def test_a_crate_that_the_program_does_not_stand_on_is_left_alone(self) -> None:
         it = self.checkout()
         folder = it.top / "crates/other/src"
@@ -428,6 +448,74 @@ class PictureTests(unittest.TestCase):
         self.assertEqual(self.draw(it), (126, ""))
         it.as_usual()
         self.assertEqual(self.draw(it), (0, "drawn\n"))
+
+
+KIT = shutil.which("rt")
+CAUGHT = {"text": True, "stdin": subprocess.DEVNULL, "stdout": subprocess.PIPE, "stderr": subprocess.STDOUT}
+
+# In a crate's folder: the sign that it is built for the launchers.
+STATEMENTS = "out/rlib/statements/stamp"
+
+
+@unittest.skipIf(KIT is None, "there is no rt on the path")
+class KitTests(unittest.TestCase):
+    """Tests with the kit's own `rt`, on a checkout of two crates that are proved in seconds."""
+
+    def checkout(self) -> Checkout:
+        made = Checkout()
+        self.addCleanup(shutil.rmtree, made.above, ignore_errors=True)
+        made.seconds = 600
+        (made.bin / "rt").unlink()
+        (made.top / "HANDLES").write_text("Handles allowed: none.\n")
+        self.base = made.top / "crates/base"
+        self.write(3)
+        made.main.write_text(f"{HEAD}fn main() {{\n    let _ = base::number();\n}}\n")
+        return made
+
+    def write(self, number: int) -> None:
+        (self.base / "src/lib.rt").write_text(f"{HEAD}/// A number.\npub fn number() -> u8 {{\n    {number}\n}}\n")
+
+    def proofs(self, it: Checkout, name: str) -> int:
+        return (it.top / f"out/{name}.log").read_text().count("logic=proved")
+
+    def test_proves_as_the_gate_does_and_what_changed_again(self) -> None:
+        it = self.checkout()
+        self.assert_ran(it.call())
+        self.assertTrue((self.base / STATEMENTS).exists())
+        self.assertFalse((self.base / "out/rlib/stamp").exists())
+        self.assertEqual(self.proofs(it, "leases"), 2)
+        self.assertNotIn("incremental=trusted", (it.top / "out/leases.log").read_text())
+        # With the program's text alone changed, what is built below it serves again.
+        it.main.write_text(it.main.read_text() + "// The end.\n")
+        self.assert_ran(it.call())
+        self.assertEqual(self.proofs(it, "leases"), 1)
+        self.write(4)
+        for wanted in (1, 0):
+            it.build("--prove", "base")
+            self.assertEqual(self.proofs(it, "base"), wanted)
+        # What it leaves is in no other command's way.
+        ran = subprocess.run(["rt", "verdict"], cwd=self.base, check=False, **CAUGHT)
+        self.assertEqual((ran.returncode, ran.stdout.count("logic=proved")), (0, 1), ran.stdout)
+
+    def test_a_crate_that_is_not_proved_is_shown(self) -> None:
+        it = self.checkout()
+        self.write(300)
+        ran = it.call()
+        self.assertEqual(ran.returncode, 126)
+        self.assertIn("crate base is not proved", ran.stderr)
+        self.assertFalse((self.base / STATEMENTS).exists())
+
+    def test_goes_on_from_what_checks_kept(self) -> None:
+        it = self.checkout()
+        it.build("--prove", "leases", "--keep")
+        self.assertTrue((self.base / "out/rlib/stamp").exists())
+        self.write(4)
+        self.assert_ran(it.call())
+        self.assertIn("incremental=trusted", (it.top / "out/leases.log").read_text())
+        self.assertFalse((self.base / STATEMENTS).exists())
+
+    def assert_ran(self, ran: subprocess.CompletedProcess) -> None:
+        self.assertEqual((ran.returncode, ran.stdout), (0, ""), ran.stderr)
 
 
 class ProgramTests(unittest.TestCase):

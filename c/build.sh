@@ -6,8 +6,8 @@
 #
 #     c/build.sh FOLDER [FLAG..]     the flags go to the compiler, which is the words of CC, or cc
 #
-# The proved library comes from `rt lib` in crates/wakhurmi_c, which proves it first where that is still to be done, or from the
-# file that WAKHURMI_PROVED names.
+# The proved library is that of crates/wakhurmi_c, which is proved and built first where that is still to be done, as ./leases is, or
+# the file that WAKHURMI_PROVED names.
 set -eu
 CDPATH=
 here=$(cd -- "$(dirname -- "$0")" && pwd)
@@ -15,9 +15,11 @@ here=$(cd -- "$(dirname -- "$0")" && pwd)
 mkdir -p -- "$1"
 folder=$(cd -- "$1" && pwd)
 shift
-crate=$here/../crates/wakhurmi_c
-[ -n "${WAKHURMI_PROVED:-}" ] || (cd -- "$crate" && rt lib)
-proved=$(readlink -f -- "${WAKHURMI_PROVED:-$crate/out/libwakhurmi_c.a}")
+if [ -z "${WAKHURMI_PROVED:-}" ]; then
+    name=libwakhurmi_c.a crate=wakhurmi_c top=$here/../
+    . "${top}launch/launch.sh"
+fi
+proved=$(readlink -f -- "${WAKHURMI_PROVED:-$built}")
 kit=$(dirname -- "$(dirname -- "$(readlink -f -- "$(command -v rt)")")")
 objects=$(mktemp -d)
 trap 'rm -rf -- "$objects"' EXIT

@@ -1,16 +1,21 @@
 #!/usr/bin/env python3
-"""Proves a program and all that it stands on, builds it, and puts it in its place.
+"""Proves a program or an archive and all that it stands on, builds it, and puts it in its place.
 
-    launch/build.py --rt RT --lock DESCRIPTOR NAME CRATE
-    launch/build.py --prove CRATE
+    launch/build.py [--rt RT] [--lock DESCRIPTOR] [--cpu PROCESSOR] NAME CRATE
+    launch/build.py --prove CRATE [--keep]
     launch/build.py --plan CRATE
 
-The first is what the launcher NAME calls, who holds the lock that DESCRIPTOR leads to: all that works here keeps it, so that no
-other call builds beside what is left of this one. The status is 0 where out/NAME is the program of the sources as they stood
-when this began, and 1 where they can't be read, or a crate isn't proved. What all commands said stands in out/NAME.log.
+The first is what launch.sh calls, who holds the lock that DESCRIPTOR leads to: all that works here keeps it, so that no other call
+builds beside what is left of this one. The status is 0 where out/NAME is the program, or the static library, of the sources as they
+stood when this began, and 1 where they can't be read, or a crate isn't proved. What all commands said stands in out/NAME.log. With
+--cpu a program is built for another processor, by the kit's name for it.
 
 The second proves any crate and all that it stands on in the same way, and puts nothing in a place. The third starts nothing: it
 says how long the table of minutes makes a build from nothing, by the number of processors.
+
+A crate is proved as the gate does it, from nothing, and what is built of it serves this alone. With --keep, or where most of the crates
+were checked here before, it is proved by `rt lib`, over what earlier checks kept: then `rt check` and other commands of `rt` go on from it.
+From nothing that takes half as long again.
 """
 
 import argparse
@@ -32,12 +37,15 @@ TOP = HERE.parent
 CRATES = TOP / "crates"
 COSTS = HERE / "minutes.txt"
 
+# In a crate's folder: what its checks by `rt` keep for later ones.
+KEPT = "out/incremental"
+
 # How often it looks whether a crate has ended, and after how long without a word it says how far it is, in seconds.
 LOOKS = 0.1
 SAYS = 120
 
 # A job takes at most so much memory, in gigabytes.
-GIGABYTES_A_PROCESSOR = 4
+GIGABYTES_A_PROCESSOR = 3
 
 # What a crate that was built before takes of its minutes, at most: it tells nothing of the machine.
 AT_ONCE = 0.1
@@ -134,13 +142,18 @@ class Work:
 
 
 class Build:
-    """A program's way from its sources to out/NAME, or that of a library to its proof."""
+    """The way of a program or an archive from its sources to out/NAME, or that of a library to its proof."""
 
     def __init__(self, name: str, crate: str, rt: str, lock: int) -> None:
         self.name, self.crate, self.rt, self.lock = name, crate, rt, lock
+        # Whether later checks by `rt` can go on from this one, and the flags of the program alone.
+        self.keeps = False
+        self.flags: List[str] = []
         self.out = TOP / "out"
         self.out.mkdir(exist_ok=True)
-        self.program = CRATES / crate / "out" / crate if (CRATES / crate / "src/main.rt").exists() else None
+        self.is_program = (CRATES / crate / "src/main.rt").exists()
+        # What `rt` makes of the crate, if it is a program or a static library.
+        self.made = CRATES / crate / "out" / (crate if self.is_program else f"lib{crate}.a")
         self.log = open(self.out / f"{name}.log", "w")
         self.start = self.last_said = time.monotonic()
         self.works: Dict[str, Work] = {}
@@ -153,14 +166,14 @@ class Build:
             print(f"{self.name}: {text}", file=file, flush=True)
 
     def run(self) -> None:
-        """Proves all, and gives the program its place."""
+        """Proves all, and gives what is made its place."""
         self.make_plan()
         crates = self.plan.names
         of_sources = sum_of(crates)
-        built = self.prove()
-        if built is None:
-            raise Refused("no program was built")
-        self.place(built, self.name)
+        self.prove()
+        if not self.made.is_file():
+            raise Refused(f"{self.crate} is neither a program nor a static library")
+        self.place(self.made, self.name)
         self.write(f"{self.name}.sum", f"{of_sources}\n{' '.join(crates)}\n")
         self.write("rt", f"{self.rt}\n")
 
@@ -168,10 +181,12 @@ class Build:
         at_once = processors()
         jobs = max(min(at_once, int(memory() / GIGABYTES_A_PROCESSOR)), 1)
         self.plan = plan_of(self.crate, jobs, min(memory(), at_once * GIGABYTES_A_PROCESSOR))
-        what = "building the program, which is proved first" if self.program is not None else "proving the crate"
+        minutes = {name: self.plan.costs[name].minutes for name in self.plan.names}
+        kept = sum(minutes[name] for name in minutes if (CRATES / name / KEPT).is_dir())
+        self.keeps = self.keeps or kept > sum(minutes.values()) / 2
         crates = f"{len(self.plan.names)} crate{'s' * (len(self.plan.names) > 1)}"
         at_a_time = f"{jobs} processor{'s' * (jobs > 1)}"
-        self.say(f"{what}: {crates}, from nothing about {minutes_of(60 * self.plan.minutes_left())} on {at_a_time}")
+        self.say(f"proving and building: {crates}, from nothing about {minutes_of(60 * self.plan.minutes_left())} on {at_a_time}")
 
     def place(self, file: pathlib.Path, name: str) -> None:
         """Gives out/ a copy of a file, whole or not at all."""
@@ -182,10 +197,9 @@ class Build:
         (self.out / f"{name}.new").write_text(text)
         os.replace(self.out / f"{name}.new", self.out / name)
 
-    def prove(self) -> Optional[pathlib.Path]:
-        """Proves each crate when those below it are, and gives the program that is built with the last, if it is one."""
-        if self.program is not None and self.program.exists():
-            self.program.unlink()
+    def prove(self) -> None:
+        """Proves each crate when those below it are, and has what is made of the last built."""
+        self.made.unlink(missing_ok=True)
         while True:
             self.start_crates()
             if not self.works:
@@ -199,7 +213,6 @@ class Build:
                 self.tell(f"{', '.join(self.works)} under way")
         if self.plan.failed:
             raise Refused(f"not proved: {', '.join(sorted(self.plan.failed))}")
-        return self.program
 
     def speed(self) -> float:
         """What crates take here for a minute of the table. One that runs for longer than planned counts already."""
@@ -225,10 +238,10 @@ class Build:
             self.works[name] = Work(name, self.words(name, jobs), self.lock)
 
     def words(self, name: str, jobs: int) -> List[str]:
-        if name == self.crate and self.program is not None:
+        beside = [sys.executable, "-B", str(HERE / "beside.py"), str(os.getpid()), *["--statements"] * (not self.keeps)]
+        if name == self.crate and self.is_program:
             # This proves, builds and starts the program, which has no words and so ends at once, with a status of its own.
-            return [self.rt, "run", "--jobs", str(jobs)]
-        beside = [sys.executable, "-B", str(HERE / "beside.py"), str(os.getpid())]
+            return [*beside, self.rt, "run", "--jobs", str(jobs), *self.flags]
         return [*beside, self.rt, "lib", "--jobs", str(jobs)]
 
     def take(self, name: str, work: Work, status: int, of_processors: float) -> None:
@@ -236,8 +249,7 @@ class Build:
         del self.works[name]
         passed, text, jobs = work.seconds(), work.text(), self.plan.running[name].jobs
         # The status of a program's crate is the program's own.
-        is_program = name == self.crate and self.program is not None
-        is_proved = self.program.is_file() if is_program and self.program is not None else status == 0
+        is_proved = self.made.is_file() if name == self.crate and self.is_program else status == 0
         self.log.write(f"== {name}: status {status}, jobs {jobs}, seconds {passed:.1f}, of processors {of_processors:.1f}\n{text}")
         self.log.flush()
         if not is_proved:
@@ -280,8 +292,10 @@ def main() -> int:
     words = argparse.ArgumentParser(description=__doc__, formatter_class=argparse.RawDescriptionHelpFormatter)
     words.add_argument("--plan", metavar="CRATE")
     words.add_argument("--prove", metavar="CRATE")
+    words.add_argument("--keep", action="store_true")
     words.add_argument("--rt", default="rt")
     words.add_argument("--lock", type=int, default=2)
+    words.add_argument("--cpu", metavar="PROCESSOR")
     words.add_argument("name", nargs="?")
     words.add_argument("crate", nargs="?")
     given = words.parse_args()
@@ -295,6 +309,7 @@ def main() -> int:
         signal.signal(signal.SIGINT, signal.SIG_DFL)
     rt = os.path.abspath(shutil.which(given.rt) or given.rt)
     build = Build(given.prove or given.name, given.prove or given.crate, rt, given.lock)
+    build.keeps, build.flags = given.keep, ["--cpu", given.cpu] * bool(given.cpu)
     try:
         if given.prove:
             build.make_plan()

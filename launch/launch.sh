@@ -1,12 +1,12 @@
-# What both launchers do. A launcher sets `name`, that of the program and its own, `crate`, from which the program is built,
-# and `top`, the repository's folder with a slash behind, and reads this file.
+# What both launchers and c/build.sh do. Each sets `name`, that of a program or an archive, `crate`, from which it is built, and
+# `top`, the repository's folder with a slash behind, and reads this file. Then `built` is the file, built from the sources.
 #
-# The program that runs is out/NAME. A build leaves it alone until the new one is whole, so a build that fails or is cut off
-# takes nothing away. Beside it, in out/NAME.sum, stand the sum of the sources that it was built from, and the crates that these
-# are. Where the sources have this sum, nothing but the program is needed. Else launch/build.py proves and builds it first.
-# What that says goes to standard error.
+# The file is out/NAME. A build leaves it alone until the new one is whole, so a build that fails or is cut off takes nothing
+# away. Beside it, in out/NAME.sum, stand the sum of the sources that it was built from, and the crates that these are. Where
+# the sources have this sum, nothing but the file is needed. Else launch/build.py proves and builds it first. What that says
+# goes to standard error.
 #
-# Statuses of its own: 126 where the program can't be built, 127 where there is no `rt`, or no Python to run it.
+# Statuses of its own: 126 where it can't be built, 127 where there is no `rt`, or no Python to run it.
 set -u
 
 say() {
@@ -21,12 +21,12 @@ stop() {
 }
 
 out=${top}out
-program=$out/$name
+built=$out/$name
 . "${top}launch/sources.sh"
 
-# Whether the program that is there is that of the sources as they stand.
+# Whether the file that is there is that of the sources as they stand.
 is_current() {
-    [ -x "$program" ] && [ -r "$out/$name.sum" ] || return
+    [ -f "$built" ] && [ -r "$out/$name.sum" ] || return
     { read -r built_of && read -r below; } <"$out/$name.sum" || return
     # The names of crates are words.
     # shellcheck disable=SC2086
@@ -40,23 +40,22 @@ find_rt() {
 }
 
 build() {
-    find_rt || stop 127 "the program has to be built, and there is no command rt on the path, which is $PATH"
+    find_rt || stop 127 "it has to be built, and there is no command rt on the path, which is $PATH"
     command -v python3 >/dev/null ||
-        stop 127 "the program has to be built, and there is no command python3 on the path, which is $PATH"
+        stop 127 "it has to be built, and there is no command python3 on the path, which is $PATH"
     (mkdir -p -- "$out" && : >>"$out/lock") 2>/dev/null ||
-        stop 126 "the program has to be built, and $out can't be written"
-    # One call builds. Another waits for it, and then finds the program. All that builds keeps the lock, also where this
+        stop 126 "it has to be built, and $out can't be written"
+    # One call builds. Another waits for it, and then finds what it built. All that builds keeps the lock, also where this
     # process is killed and they aren't.
     exec 9>>"$out/lock"
     if ! flock -n 9; then
-        say "another call builds the program; waiting for it"
+        say "another call builds here; waiting for it"
         flock 9
         is_current && exec 9>&- && return
     fi
     python3 -B -- "${top}launch/build.py" --rt "$rt" --lock 9 "$name" "$crate" 9>&9 ||
-        stop 126 "the program couldn't be built; $out/$name.log says why"
+        stop 126 "it couldn't be built; $out/$name.log says why"
     exec 9>&-
 }
 
 is_current || build
-exec "$program" "$@"

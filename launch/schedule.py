@@ -14,13 +14,13 @@ LINES_A_MINUTE = 600
 GIGABYTES = 2.5
 
 # What each job more takes of memory, at most, in gigabytes.
-GIGABYTES_A_JOB = 1.5
+GIGABYTES_A_JOB = 0.8
 
 # How much of a crate's minutes more jobs divide, where the table doesn't say: as measured of large crates that stand on few.
-DIVIDED = 0.42
+DIVIDED = 0.6
 
 # What each job more takes of a processor beside its part of what is divided, as a share of that.
-A_JOB = 0.5
+A_JOB = 0.2
 
 # The choices of jobs. A check with more is hardly faster.
 JOBS = (1, 2, 3, 4)
@@ -29,7 +29,7 @@ JOBS = (1, 2, 3, 4)
 LEAST_SPARE = 0.6
 
 # What a minute of a processor counts beside a minute of the clock. More jobs take more of the processors' time for the same proof.
-PRICE = 0.1
+PRICE = 0.5
 
 
 @dataclasses.dataclass(frozen=True)
