@@ -7,6 +7,7 @@ first word names. Each call of the stand-in leaves a line in the file `calls`. W
 the file `instead`, a shell script that is run in its place, with the words of the call.
 """
 
+import fcntl
 import os
 import pathlib
 import re
@@ -389,6 +390,17 @@ class LauncherTests(unittest.TestCase):
         it.main.write_text("first\n")
         self.assert_ran(it.call(), "for x86-64-v3\n")
         self.assertEqual(it.builds(), 2)
+
+    def test_a_build_by_hand_waits_for_the_lock(self) -> None:
+        it = self.checkout()
+        it.call()
+        with open(it.top / "out/lock") as held:
+            fcntl.flock(held, fcntl.LOCK_EX)
+            building = subprocess.Popen([sys.executable, "-B", it.top / "launch/build.py", "--prove", "base"], **it.how())
+            with self.assertRaises(subprocess.TimeoutExpired):
+                building.wait(timeout=1)
+        building.communicate(timeout=60)
+        self.assertEqual(building.returncode, 0)
 
     def test_a_crate_that_the_program_does_not_stand_on_is_left_alone(self) -> None:
         it = self.checkout()

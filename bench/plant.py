@@ -6,8 +6,9 @@
 --since takes the crates whose contracts (specs, clauses, signatures) aren't those of a commit. `rt plant` begins with a check of the
 crate, over the libraries below it. These are taken from what the launcher built here (`launch/build.py --prove CRATE`), or else from what
 the gate kept on this machine. So one of them must have proved the crates as they stand here: a crate over others of which nothing is
-kept is named at the end and left alone, and so is one for which the time (an hour, if --minutes isn't given) doesn't suffice. The crates that are proved soonest come first. Each is tried for at
-most --crate-minutes (10) behind its first check, with at most --max (400) wrong bodies.
+kept is named at the end and left alone, and so is one for which the time (an hour, if --minutes isn't given) doesn't suffice. The
+crates that are proved soonest come first. Each is tried for at most --crate-minutes (10) behind its first check, with at most --max
+(400) wrong bodies. A body that calls itself may be listed as proved: no measure is asked for here, where the prover wants one.
 
 Each crate is tried in a folder of its own beside the system's other temporary ones. The repository is only read. Not part of the
 gate.

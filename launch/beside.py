@@ -30,7 +30,7 @@ from typing import List, Optional
 
 PR_SET_PDEATHSIG = 1
 
-# In a crate's folder: what is built of it with its statements alone. `rt` stops at files of its kinds in other folders than these.
+# In a crate's folder: what is built of it with its statements alone. Elsewhere in out/ than in rlib, `rt` takes its files for strays, and stops.
 STATEMENTS = "out/rlib/statements"
 
 # What a proof that keeps statements needs of the script's module for crates.

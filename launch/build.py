@@ -15,10 +15,11 @@ says how long the table of minutes makes a build from nothing, by the number of 
 
 A crate is proved as the gate does it, from nothing, and what is built of it serves this alone. With --keep, or where most of the crates
 were checked here before, it is proved by `rt lib`, over what earlier checks kept: then `rt check` and other commands of `rt` go on from it.
-From nothing that takes half as long again.
+From nothing that takes longer. Without --lock this waits for the lock itself.
 """
 
 import argparse
+import fcntl
 import os
 import pathlib
 import re
@@ -44,7 +45,7 @@ KEPT = "out/incremental"
 LOOKS = 0.1
 SAYS = 120
 
-# A job takes at most so much memory, in gigabytes.
+# The memory that each processor is to have, in gigabytes: four took 8.4 at once, and the last crate alone 3.8.
 GIGABYTES_A_PROCESSOR = 3
 
 # What a crate that was built before takes of its minutes, at most: it tells nothing of the machine.
@@ -269,6 +270,14 @@ class Build:
         self.say(f"{what}; {so_far} so far, " + (f"about {minutes_of(left)} to go" if left else "nothing to go"))
 
 
+def locked() -> int:
+    """A descriptor that holds the lock of the launchers, once no other has it."""
+    (TOP / "out").mkdir(exist_ok=True)
+    held = os.open(TOP / "out/lock", os.O_RDWR | os.O_CREAT, 0o666)
+    fcntl.flock(held, fcntl.LOCK_EX)
+    return held
+
+
 def print_plans(crate: str) -> None:
     """How long a build from nothing takes by the table."""
     print("processors  minutes  busy  most gigabytes")
@@ -294,7 +303,7 @@ def main() -> int:
     words.add_argument("--prove", metavar="CRATE")
     words.add_argument("--keep", action="store_true")
     words.add_argument("--rt", default="rt")
-    words.add_argument("--lock", type=int, default=2)
+    words.add_argument("--lock", type=int)
     words.add_argument("--cpu", metavar="PROCESSOR")
     words.add_argument("name", nargs="?")
     words.add_argument("crate", nargs="?")
@@ -308,7 +317,8 @@ def main() -> int:
     if signal.getsignal(signal.SIGINT) is signal.default_int_handler:
         signal.signal(signal.SIGINT, signal.SIG_DFL)
     rt = os.path.abspath(shutil.which(given.rt) or given.rt)
-    build = Build(given.prove or given.name, given.prove or given.crate, rt, given.lock)
+    lock = locked() if given.lock is None else given.lock
+    build = Build(given.prove or given.name, given.prove or given.crate, rt, lock)
     build.keeps, build.flags = given.keep, ["--cpu", given.cpu] * bool(given.cpu)
     try:
         if given.prove:
