@@ -92,8 +92,10 @@ def read_calls(crates: List[str], top: pathlib.Path) -> Dict[str, Set[str]]:
     """By function of these crates, what it names."""
     calls: Dict[str, Set[str]] = {}
     for crate in crates:
-        file = top / "crates" / crate / f"out/rlib/{crate}.rlib/toolchain/mir.json"
-        if not file.is_file():
+        # The launcher keeps what it builds in a folder of its own.
+        built = [top / "crates" / crate / folder / f"{crate}.rlib/toolchain/mir.json" for folder in ("out/rlib/statements", "out/rlib")]
+        file = next(filter(pathlib.Path.is_file, built), None)
+        if file is None:
             sys.exit(f"uncalled: {crate} is not built in {top}: call ./leases there first")
         for name, body in json.loads(file.read_text()):
             calls[name] = set(names_in(body))
