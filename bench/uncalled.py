@@ -92,12 +92,13 @@ def read_calls(crates: List[str], top: pathlib.Path) -> Dict[str, Set[str]]:
     """By function of these crates, what it names."""
     calls: Dict[str, Set[str]] = {}
     for crate in crates:
-        # The launcher keeps what it builds in a folder of its own.
-        built = [top / "crates" / crate / folder / f"{crate}.rlib/toolchain/mir.json" for folder in ("out/rlib/statements", "out/rlib")]
-        file = next(filter(pathlib.Path.is_file, built), None)
-        if file is None:
+        # The launcher keeps what it builds in a folder of its own, but where checks by `rt` came before.
+        paths = [top / "crates" / crate / folder / f"{crate}.rlib/toolchain/mir.json" for folder in ("out/rlib", "out/rlib/statements")]
+        built = [file for file in paths if file.is_file()]
+        if not built:
             sys.exit(f"uncalled: {crate} is not built in {top}: call ./leases there first")
-        for name, body in json.loads(file.read_text()):
+        newest = max(built, key=lambda file: file.stat().st_mtime)
+        for name, body in json.loads(newest.read_text()):
             calls[name] = set(names_in(body))
     return calls
 
