@@ -30,7 +30,7 @@ import tempfile
 
 import measure
 
-BELOW = ["item_actions", "daemon_protocol"]
+BELOW = ["item_actions", "daemon_protocol", "frame_decoder"]
 PROGRAM = "frame_probe"
 ENCODER = "encode_probe"
 

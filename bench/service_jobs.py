@@ -22,7 +22,7 @@ import tempfile
 
 import measure
 
-BELOW = measure.with_those_below("shared_services")
+BELOW = [*measure.with_those_below("shared_services"), "memory_files"]
 PROGRAM = "job_rounds"
 JOBS = 2000
 # How many runs the program makes in a call, and how often it is called.

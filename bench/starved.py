@@ -25,7 +25,7 @@ import tempfile
 import measure
 
 PROGRAM = "starved_run"
-LIBRARIES = ["item_actions", "file_access", "daemon_desk", "leases_cli"]
+LIBRARIES = ["item_actions", "file_access", "memory_files", "memory_desk", "leases_cli"]
 # The allocation that fails. A case makes as many before the run as are needed for it to be another one of the run.
 FAILING = 3000
 NO_MEMORY = 10

@@ -1,7 +1,7 @@
 -- Where items can be claimed and closed, and what that leaves.
-use Rattle.std.proofs.Common.{◌≡◌, ◌≢◌, ℕ, ◌<◌, Bool, true, false, not, ◌&&◌, ◌||◌, inl, inr, refl, sym, ap, ◌∙◌, subst}
+use Rattle.std.proofs.Common.{◌≡◌, ◌≢◌, ℕ, Bool, true, false, not, ◌&&◌, ◌||◌, inl, inr, refl, sym, ap, ◌∙◌, subst}
 use Rattle.std.specs.Prelude.{Contains, nat_lt}
-use Rattle.std.proofs.lemmas.Bool.{and_from, eq-eqb, false≢true, false_from_ne_true}
+use Rattle.std.proofs.lemmas.Bool.{and_from, eq-eqb, false≢true}
 use Rattle.lock_journal.specs.Names.{can, make, same_mark, GraphView, is_item, Holding, StateView, holding_of, is_idle, is_parked, leases_out}
 use Rattle.lock_journal.specs.Names.{mark_of, runs_by, runs_unit, WorkerId, Queued, Running, UnitOf, Move, Take, IsDisabled, IsFixedList, BookView}
 use Rattle.lock_journal.specs.Names.{condition, is_enabled, mark_from, Claim, Close, mark_before, with_if, without_if}
@@ -10,7 +10,6 @@ use Rattle.item_actions.specs.declared.outcomes.Outcome.TheVariants as outcomes
 use Rattle.coordination.specs.Names.{Finds, HasFinished, claimed_shown, lease_shown}
 use Rattle.coordination.specs.declared.rule.Sight.{Sight}
 use Rattle.async_tracker.specs.Shows.{IsFree, IsIdleOrParked, IsItemHere, ShowsClaimed, ShowsClosed}
-use Rattle.async_tracker.specs.Waits.{NeedsLease}
 use Rattle.coordination.proofs.lemmas.Shown.{shows_left}
 use Rattle.lock_journal.proofs.lemmas.Claims.{action_claimed, idle_shown, unit_claimed, unit_runs}
 
@@ -44,17 +43,6 @@ may_claim old book found free rests =
       lease = ap (λ (h : Holding). h.lease) same.holding ∙ free.lease;
       rests = (λ i. same.is_parked i || same.is_idle i) ∙ rests_or old free rests;
     }
-
--- a claim waits for a lease alone
-pub claim_needs_lease : (old : Sight) (book : BookView) (u : ℕ) → Finds old.worker old.seen book → IsItemHere old.seen.graph u → IsFree old → IsIdleOrParked old
-    → (u < book.graph.units → (mark_of book.state (UnitOf u) ≡ Queued) × (is_enabled book.graph book.state old.worker (Claim u) ≡ false)) → NeedsLease u book.graph old.worker book.state
-claim_needs_lease old book u found item free rests waits =
-    let graph : old.seen.graph ≡ book.graph = sym found.agrees.graph in
-    let here : IsItemHere book.graph u = subst (λ (g : GraphView). IsItemHere g u) graph item in
-    let why = waits here.in_range in
-    let may = may_claim old book found free rests in
-    let none : nat_lt (leases_out book.state) book.state.max_leases ≡ false = false_from_ne_true _ (λ some. false≢true (sym why.1 ∙ claim_enabled book.graph book.state old.worker u here.item why.0 may some)) in
-    (why.0, rw (may.lease, none) refl)
 
 pub claimed_shows : {u : ℕ} {old new : Sight} → HasFinished (Claim u) (IsFixedList (Claim u)) old new → ShowsClaimed u old new
 claimed_shows {u} {old} f = shows_left f f.finished.made record {

@@ -6,7 +6,3 @@ pub mod QueuedItems
 pub mod AfterClosing
 pub mod AfterEnding
 pub mod QueuedClaims
-pub mod TaskMoves
-pub mod TaskActions
-pub mod TaskEnds
-pub mod AtOnce

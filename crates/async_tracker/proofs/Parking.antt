@@ -17,7 +17,7 @@ use Rattle.resource_lock.proofs.lemmas.Kept.{kept}
 use Rattle.resource_lock.proofs.lemmas.Runs.{worker_from}
 use Rattle.coordination.specs.Names.{Finds, HasFinished, ShowsTheSame, claimed_shown, lease_shown, locks_shown, parked_shown}
 use Rattle.coordination.specs.declared.rule.Sight.{Sight}
-use Rattle.coordination.proofs.lemmas.Entries.{belongs_sound, good_sound}
+use Rattle.worker_notes.proofs.lemmas.Entries.{belongs_sound, good_sound}
 use Rattle.coordination.proofs.lemmas.Shown.{Leaves, shows_left}
 use Rattle.async_tracker.specs.Shows.{HasParkedLast, HasReleased, IsFree, IsIdleOrParked, IsParkedBy, OwnsToPark, ShowsParked, WorksOn, locks_on_park, parked_on_park}
 use Rattle.async_tracker.specs.ParkedView.{ParkedView}

@@ -14,7 +14,7 @@ use Rattle.coordination.specs.declared.decisions.Followed.{Followed}
 use Rattle.coordination.specs.declared.decisions.Followed.TheVariants as followed
 use Rattle.coordination.specs.declared.halts.Halt.{Halt}
 use Rattle.coordination.specs.declared.rule.Sight.{Sight}
-use Rattle.coordination.proofs.lemmas.Entries.{belongs_sound}
+use Rattle.worker_notes.proofs.lemmas.Entries.{belongs_sound}
 use Rattle.coordination.proofs.lemmas.Shown.{looked_shows}
 use Rattle.async_tracker.specs.Following.{HasParkedAtOnce}
 use Rattle.async_tracker.specs.Queueing.{HasSubmittedThen}

@@ -1,5 +1,5 @@
--- Where a task can't be started, skipped or ended, and what each leaves.
-use Rattle.std.proofs.Common.{◌≡◌, ℕ, ◌<◌, ◌≤◌, Result, Ok, Err, arith, Bool, true, false, cond, not, ◌&&◌, ◌||◌, List, [], ◌∷◌, ◌++◌, length, refl, sym, ap, ◌∙◌, subst}
+-- Where a task can't be started or ended, and what a start, a skip and an end leave.
+use Rattle.std.proofs.Common.{◌≡◌, ℕ, ◌<◌, Bool, true, false, cond, not, ◌&&◌, ◌||◌, List, [], ◌∷◌, ◌++◌, length, refl, sym, ap, ◌∙◌, subst}
 use Rattle.std.specs.Prelude.{nat_lt, is_none}
 use Rattle.std.specs.List.{list_all}
 use Rattle.std.proofs.lemmas.Bool.{and_from, eq-eqb, false≢true, not_from_false}
@@ -13,16 +13,15 @@ use Rattle.lock_journal.specs.Names.{list_of, moved_units, skipped_action, skipp
 use Rattle.lock_journal.specs.Names.{after_all, claimed_after, lock_before, locks_after, mark_before, with_if, with_member, without_if}
 use Rattle.lock_journal.specs.Names.{without_member}
 use Rattle.worker_choices.specs.NextSteps.{CanBegin}
-use Rattle.coordination.specs.Names.{Finds, Cause, HasFailed, HasFinished, HasLooked, WasStopped, HoldsNothing, ShowsTheSame, blocked_shown}
+use Rattle.coordination.specs.Names.{Finds, HasFinished, HoldsNothing, ShowsTheSame, blocked_shown}
 use Rattle.coordination.specs.Names.{claimed_shown, lease_shown, locks_shown}
-use Rattle.coordination.specs.declared.halts.Halt.{Halt}
 use Rattle.coordination.specs.declared.rule.Sight.{Sight}
-use Rattle.coordination.proofs.lemmas.Shown.{failed_shows, looked_shows, shows_left, stopped_shows}
-use Rattle.async_tracker.specs.Tasks.{CannotEnd, CannotSkip, CannotStart, MayEnd, ShowsEnded, ShowsStarted, locks_on_end}
+use Rattle.coordination.proofs.lemmas.Shown.{shows_left}
+use Rattle.async_tracker.specs.Tasks.{CannotEnd, CannotStart, MayEnd, ShowsEnded, ShowsStarted, locks_on_end}
 use Rattle.lock_journal.proofs.lemmas.Claims.{action_claimed, idle_shown, task_runs, unit_claimed}
 
 -- a worker that has nothing is idle in every state that it finds, and has nothing there
-idle_found : (old : Sight) (book : BookView) → Finds old.worker old.seen book → HoldsNothing old → is_idle book.state old.worker ≡ true
+pub idle_found : (old : Sight) (book : BookView) → Finds old.worker old.seen book → HoldsNothing old → is_idle book.state old.worker ≡ true
 idle_found old book found rests =
     found.agrees.state.is_idle
     ∙ idle_shown old.seen.state old.worker rests.locks rests.claimed (ap (λ (h : Holding). h.lease) rests.holding) (ap (λ (h : Holding). h.blocked) rests.holding)
@@ -41,24 +40,10 @@ start_enabled g s w t idle nothing begin =
     let moves : can (make_all s w (Lock l ∷ Take ∷ [])) w (Move (TaskOf t) Waiting (Running w)) ≡ true = λ i. same_mark (begin.start.waits i) Waiting && true && true && eq-eqb w.0 w.0 refl i in
     and_from _ _ holds (and_from _ _ locks (and_from _ _ takes (and_from _ _ moves refl)))
 
--- a start and a skip of a task that is there wait for nothing
-pub is_there : (old : Sight) (book : BookView) (t : ℕ) → Finds old.worker old.seen book → t < length old.seen.graph.tasks → length book.graph.tasks ≤ t → ⊥
-is_there old book t found within past =
-    let here : t < length book.graph.tasks = subst (λ (g : GraphView). t < length g.tasks) (sym found.agrees.graph) within in
-    omega (arith, here, past)
-
 -- a start of an idle worker fails only where the task can't be begun
 pub cannot_start : (old : Sight) (book : BookView) (t : ℕ) → Finds old.worker old.seen book → HoldsNothing old → is_enabled book.graph book.state old.worker (Start t) ≡ false → CannotStart t book.graph old.worker book.state
 cannot_start old book t found rests fails = λ begin.
     false≢true (sym fails ∙ start_enabled book.graph book.state old.worker t (idle_found old book found rests) (nothing_found old book found rests) begin)
-
--- a skip of an idle worker fails only where the task can't be skipped
-pub cannot_skip : (old : Sight) (book : BookView) (t : ℕ) → Finds old.worker old.seen book → HoldsNothing old → is_enabled book.graph book.state old.worker (Skip t) ≡ false → CannotSkip t book.graph old.worker book.state
-cannot_skip old book t found rests fails = λ skip.
-    let w : WorkerId = old.worker in
-    let idle = idle_found old book found rests in
-    let holds : condition book.graph book.state w (Skip t) ≡ true = λ i. same_mark (skip.waits i) Waiting && skip.fallen i && idle i in
-    sym (ap (λ b. b && can_all book.state w (list_of book.graph book.state w (Skip t))) holds) ∙ fails
 
 -- the end of a task waits only where an action isn't through, or where a change can't be made
 pub cannot_end : (old : Sight) (book : BookView) (t : ℕ) → Finds old.worker old.seen book → t < length old.seen.graph.tasks → MayEnd old t → IsDisabled (End t) book.graph old.worker book.state → CannotEnd t book.graph old.worker book.state
@@ -117,14 +102,6 @@ skipped_shows {t} {old} f =
       locks = quiet_actions locks_after (λ x m. refl) g (locks_shown old) acts [];
       claimed = quiet_actions (claimed_after old.worker) (λ x m. refl) g (claimed_shown old) acts [];
     }
-
--- whatever a skip answers
-pub skip_shows : {t : ℕ} {fails retries : Cause} {old new : Sight} (r : Result Bool Halt) → (r ≡ Ok true → HasFinished (Skip t) (IsFixedList (Skip t)) old new) → (r ≡ Ok false → HasFailed (Skip t) fails old new)
-    → (r ≡ Err Halt.NoMemory → HasLooked old new) → ((by : WorkerId) → r ≡ Err (Halt.Stopped by) → WasStopped retries by old new) → ShowsTheSame old new
-skip_shows (Ok true) finished failed looked stopped = skipped_shows (finished refl)
-skip_shows (Ok false) finished failed looked stopped = failed_shows (failed refl)
-skip_shows (Err Halt.NoMemory) finished failed looked stopped = looked_shows (looked refl)
-skip_shows (Err (Halt.Stopped by)) finished failed looked stopped = stopped_shows (stopped by refl)
 
 -- what ends is run by nobody
 ends_run : (w : WorkerId) (b : Bool) → runs_by w (cond b Passed Failed) ≡ false

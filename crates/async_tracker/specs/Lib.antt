@@ -4,7 +4,6 @@ pub mod Tasks
 pub mod Waits
 pub mod WorkSteps
 pub mod NextWork
-pub mod TaskMoves
 pub mod Queueing
 pub mod Following
 pub mod Closings

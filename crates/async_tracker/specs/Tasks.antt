@@ -2,8 +2,7 @@
 use Rattle.std.specs.Prelude.{ℕ, ◌≡◌, Bool, true, false, ◌||◌, List, [], ◌∷◌, Contains, if◌then◌else◌}
 use Rattle.std.specs.List.{list_all, list_any}
 use Rattle.lock_journal.specs.Names.{can_all, GraphView, task_of, actions_of, StateView, mark_of, LockId, WorkerId, TaskOf, ActionOf, has_passed}
-use Rattle.lock_journal.specs.Names.{list_of, never_ran, Skip, End, lock_before, mark_before, without_member, is_action, is_unit}
-use Rattle.ready_work.specs.Choices.{CanSkip}
+use Rattle.lock_journal.specs.Names.{list_of, never_ran, End, lock_before, mark_before, without_member, is_action, is_unit}
 use Rattle.worker_choices.specs.NextSteps.{CanBegin}
 use Rattle.coordination.specs.Shown.{Shows, blocked_shown, claimed_shown, lease_shown, locks_shown, parked_shown}
 use Rattle.coordination.specs.declared.rule.Sight.{Sight}
@@ -31,10 +30,6 @@ ShowsEnded t old new = Shows (locks_on_end (lease_shown old) (task_of old.seen.g
 -- the task isn't Waiting, one that it comes after hasn't passed, somebody owns a lock that conflicts with its own, or no lease is free
 abbrev pub CannotStart : ℕ → GraphView → WorkerId → StateView → Type 0
 CannotStart t g w s = ¬ CanBegin g w s t
-
--- where the task waits and comes after one that failed or was skipped, a mark of its actions or units can't be skipped
-abbrev pub CannotSkip : ℕ → GraphView → WorkerId → StateView → Type 0
-CannotSkip t g w s = CanSkip g s t → can_all s w (list_of g s w (Skip t)) ≡ false
 
 -- each action of the task has passed, or never ran
 abbrev pub is_through : GraphView → StateView → ℕ → Bool

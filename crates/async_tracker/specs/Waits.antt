@@ -1,18 +1,9 @@
 -- What the calls of the tracker wait for.
-use Rattle.std.specs.Prelude.{ℕ, ◌≡◌, ◌≢◌, Bool, false, ◌&&◌, [], ◌∷◌, Option, None}
+use Rattle.std.specs.Prelude.{ℕ, ◌≡◌, ◌≢◌, Bool, false, ◌&&◌, [], ◌∷◌}
 use Rattle.std.specs.List.{list_all}
-use Rattle.lock_journal.specs.Names.{same_mark, GraphView, action_of, items_of, lock_with, StateView, mark_of, can_lease, Retention, Retain, Release}
-use Rattle.lock_journal.specs.Names.{ReleaseAndReacquire, LockId, WorkerId, Waiting, Queued, ActionOf, UnitOf, BookView, earlier_passed, fetch_closed}
+use Rattle.lock_journal.specs.Names.{same_mark, GraphView, items_of, StateView, mark_of, can_lease, Retention, Retain, Release}
+use Rattle.lock_journal.specs.Names.{ReleaseAndReacquire, LockId, WorkerId, Waiting, Queued, ActionOf, UnitOf, earlier_passed, fetch_closed}
 use Rattle.lock_journal.specs.Names.{can_take_all}
-use Rattle.worker_choices.specs.NextSteps.{first_open}
-
--- no lease is free for a unit that is Queued
-abbrev pub NeedsLease : ℕ → GraphView → WorkerId → StateView → Type 0
-NeedsLease u g w s = (mark_of s (UnitOf u) ≡ Queued) × (can_lease s w ≡ false)
-
--- the unit isn't Queued
-abbrev pub IsNotQueued : ℕ → GraphView → WorkerId → StateView → Type 0
-IsNotQueued u g w s = mark_of s (UnitOf u) ≢ Queued
 
 -- the action and its items wait, and all that comes before them in the task is over
 abbrev pub can_queue : GraphView → StateView → ℕ → Bool
@@ -34,10 +25,3 @@ abbrev pub CannotTakeAgain : Retention → LockId → WorkerId → StateView →
 CannotTakeAgain Retain l w s = can_lease s w ≡ false
 CannotTakeAgain Release l w s = ⊥
 CannotTakeAgain ReleaseAndReacquire l w s = can_take_all s w (l ∷ []) ≡ false
-
-abbrev pub IsFirstOpen : ℕ → WorkerId → BookView → Option ℕ → Type 0
-IsFirstOpen a w book unit = unit ≡ first_open book.graph book.state a
-
--- all items have ended, and the lock or the lease can't be had
-abbrev pub CannotResume : ℕ → GraphView → WorkerId → StateView → Type 0
-CannotResume a g w s = (first_open g s a ≡ None) × CannotTakeAgain (action_of g a).retention (lock_with g a) w s

@@ -5,7 +5,7 @@ ghost use Rattle.resource_lock.specs.declared.ids.WorkerId.{WorkerId};
 ghost use Rattle.resource_lock.specs.declared.marks.MarkId.TheVariants as ids;
 ghost use Rattle.coordination.specs.Calls.{AskedInVain, HasLooked};
 ghost use Rattle.coordination.specs.Decisions.{CouldNotStep};
-ghost use Rattle.coordination.specs.Offered.{AreTold, AsTold, WaitsAsTold};
+ghost use Rattle.worker_notes.specs.Offered.{AreTold, AsTold, WaitsAsTold};
 ghost use Rattle.coordination.specs.Shown.{claimed_shown, lease_shown};
 ghost use Rattle.async_tracker.specs.Closings.{HasClosedThen, halt_of};
 ghost use Rattle.async_tracker.specs.Following.{HasDecidedAfter};

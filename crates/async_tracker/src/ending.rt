@@ -3,7 +3,7 @@ ghost use Rattle.std.specs.Prelude.{◌≡◌, ◌<◌, ◌⊎◌, Err, IfOk, On
 ghost use Rattle.resource_lock.specs.declared.ids.WorkerId.{WorkerId};
 ghost use Rattle.coordination.specs.Calls.{AskedInVain, HasLooked, WasStopped};
 ghost use Rattle.coordination.specs.Decisions.{CouldNotStep};
-ghost use Rattle.coordination.specs.Offered.{AreTold, AsTold, WaitsAsTold};
+ghost use Rattle.worker_notes.specs.Offered.{AreTold, AsTold, WaitsAsTold};
 ghost use Rattle.coordination.specs.Shown.{ShowsTheSame};
 ghost use Rattle.async_tracker.specs.Following.{HasDecidedAfter, HasEndedThen};
 ghost use Rattle.async_tracker.specs.Tasks.{CannotEnd, MayEnd, ShowsEnded};
@@ -12,7 +12,11 @@ use coordination::{Coordination, Decided, Decision, Followed, Halt, Offers, Pass
 use lock_transforms::kinds::End;
 use std::sync::Wait;
 
-/// Ends the task that the worker runs, as `end_task`, and decides: in one hold of the state lock where there is an answer at once.
+/// Ends the task that the worker runs, and decides: in one hold of the state lock where there is an answer at once. At the end the task's
+/// actions that never ran are skipped, and a worker with a lease gives it back, and the task's lock. `single_steps::end_task` ends it alone.
+///
+/// The end waits only where an action of the task neither has passed nor never ran, or where one of the changes can't be made, as for a
+/// worker that has a lease and not the task's lock.
 ///
 /// Where there is none yet the decision waits in a hold of its own, and other workers may have made entries in between. After an error the
 /// task has ended, or the pass shows what it showed.

@@ -4,8 +4,8 @@ ghost use Rattle.std.specs.Prelude.{◌≡◌};
 use resource_lock::WorkerId;
 use std::marker::Model;
 
-/// A worker that waits for the items of an action. `park` and `submit_and_park` make it, and `resume` takes it. Where the worker's
-/// entry of kind `Resume` is the step of a decision, it can be let go then.
+/// A worker that waits for the items of an action. `submit_and_park` makes it, or `single_steps::park`, and `single_steps::resume` takes
+/// it. Where the worker's entry of kind `Resume` is the step of a decision, it can be let go then.
 #[derive(Drop)]
 pub struct Parked {
     worker: WorkerId,
@@ -21,8 +21,9 @@ impl Model for Parked {
 }
 
 impl Parked {
-    /// What a worker keeps that waits for the items of an action.
-    pub(crate) fn new(worker: WorkerId, action: u32) -> Parked
+    /// What a worker keeps that waits for the items of an action. It is of use only where the worker's pass shows that it parked that
+    /// action (`IsParkedBy`).
+    pub fn new(worker: WorkerId, action: u32) -> Parked
         ensures worker { result.worker ≡ worker }
         ensures action { result.action ≡ action }
     {

@@ -66,11 +66,12 @@ impl Decision for ThenPark {
     }
 }
 
-/// Queues the items of an action of the task that the worker runs (`submit`), and begins to wait for them (`park`): two entries,
-/// made in one hold of the state lock.
+/// Queues the items of an action of the task that the worker runs (`Submit`), and begins to wait for them (`Park`): two entries,
+/// made in one hold of the state lock. With the second the worker gives back its lease, and the task's lock unless the action retains it.
+/// It doesn't own that lock in any state until it resumes, and can claim items meanwhile.
 ///
-/// The call waits only where `submit` does. After an error the pass shows what it showed; after `NoMemory` the items are queued or
-/// aren't, and after `Stopped` they aren't.
+/// The call waits only where the action or one of its items doesn't wait any more, or where what comes before them in the task isn't
+/// over. After an error the pass shows what it showed; after `NoMemory` the items are queued or aren't, and after `Stopped` they aren't.
 pub fn submit_and_park<R: Wait, O: Offers, K: Runner>(
     rt: &R,
     service: &Coordination<O, K>,

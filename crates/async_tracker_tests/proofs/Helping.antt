@@ -7,7 +7,8 @@ use Rattle.coordination.specs.Shown.{ShowsTheSame, claimed_shown}
 use Rattle.coordination.specs.declared.rule.Sight.{Sight}
 use Rattle.async_tracker.specs.ParkedView.{ParkedView}
 use Rattle.async_tracker.specs.Shows.{ShowsResumed}
-use Rattle.async_tracker.proofs.lemmas.Turns.{free_still, parked_still, waits_still}
+use Rattle.async_tracker.proofs.lemmas.Turns.{parked_still}
+use Rattle.single_steps.proofs.lemmas.Turns.{free_still, waits_still}
 use Rattle.async_tracker_tests.specs.TwoItems.{CanEnd, CanHelp, HasTwoItems}
 
 pub helps_still : {old new : Sight} (p : ParkedView) → ShowsTheSame old new → CanHelp old p → CanHelp new p

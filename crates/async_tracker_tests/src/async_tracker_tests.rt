@@ -7,16 +7,16 @@ ghost use Rattle.coordination.specs.Holds.{HoldsNothing};
 ghost use Rattle.coordination.specs.Shown.{Shows};
 ghost use Rattle.async_tracker_tests.specs.TwoItems.{CanEnd, CanHelp, HasTwoItems};
 
-use async_tracker::{
-    Held, NextWork, Parked, TakeNextWork, claim, close, closing_undoes_claiming, end_task,
-    next_work_of, park, resume, start_task, submit, submit_and_park,
-};
+use async_tracker::{NextWork, Parked, TakeNextWork, close, next_work_of, submit_and_park};
 use coordination::{Coordination, Halt, Opened, Pass};
 use coordination_tests::entries::{EntryRow, are_entries};
 use coordination_tests::services::{let_go, open};
 use item_actions::Outcome;
 use lock_transforms::{Closed, Kind};
 use resource_lock::{Change, GraphAction, LockId, Mark, MarkId, Retention, WorkerId};
+use single_steps::{
+    Held, claim, closing_undoes_claiming, end_task, park, resume, start_task, submit,
+};
 use state_tests::rows::{Limits, TaskRow};
 use std::alloc::{AllocError, Global};
 use std::process::Abort;

@@ -9,13 +9,14 @@ ghost use Rattle.async_tracker.specs.Shows.{IsFree, IsIdleOrParked, IsItemHere};
 ghost use Rattle.async_tracker_tests.specs.TwoItems.{HasTwoItems};
 
 use crate::async_tracker_tests::{open_task, wait_for_items};
-use async_tracker::{CloseHalt, claim, close_then};
+use async_tracker::{CloseHalt, close_then};
 use coordination::{Coordination, Decided, Decision, Halt, Opened, Pass};
 use coordination_tests::entries::EntriesFrom;
 use coordination_tests::services::let_go;
 use item_actions::Outcome;
 use lock_transforms::Closed;
 use resource_lock::{MarkId, Retention, WorkerId};
+use single_steps::claim;
 use std::alloc::AllocError;
 use std::sync::Wait;
 

@@ -1,4 +1,4 @@
-//! Tests of `async_tracker`: a task with two items, worked, waited for, skipped, closed and ended.
+//! Tests of `async_tracker` and `single_steps`: a task with two items, worked, waited for, skipped, closed and ended.
 #![tactic(auto)]
 
 #[cfg(test)]

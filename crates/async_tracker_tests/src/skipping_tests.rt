@@ -4,11 +4,11 @@ ghost use Rattle.coordination.specs.Holds.{HoldsNothing};
 ghost use Rattle.async_tracker_tests.specs.TwoItems.{HasTwoItems};
 
 use crate::async_tracker_tests::{open_task, run_task};
-use async_tracker::skip_task;
 use coordination::{Coordination, Opened, Pass};
 use coordination_tests::services::let_go;
 use item_actions::Outcome;
 use resource_lock::Retention;
+use single_steps::skip_task;
 use std::alloc::AllocError;
 use std::process::Abort;
 use std::sync::Wait;

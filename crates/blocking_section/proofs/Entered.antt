@@ -8,7 +8,7 @@ use Rattle.lock_journal.specs.Names.{Block, after_all, claimed_after, locks_afte
 use Rattle.resource_lock.proofs.lemmas.Undo.{owner_from}
 use Rattle.coordination.specs.Names.{Finds, HasFinished, claimed_shown, lease_shown, locks_shown, parked_shown}
 use Rattle.coordination.specs.declared.rule.Sight.{Sight}
-use Rattle.coordination.proofs.lemmas.Nothing.{owns_none}
+use Rattle.worker_notes.proofs.lemmas.Nothing.{owns_none}
 use Rattle.coordination.proofs.lemmas.Shown.{ShowsAfter, shows_after}
 use Rattle.blocking_section.specs.Sections.{HasSetDown, HasUnit, IsGivenBackBy, IsNotReady, MayEnter, OwnsNothingMeanwhile, is_ready, with_unit}
 use Rattle.lock_journal.proofs.lemmas.Claims.{has_member, action_claimed, unit_claimed, task_runs}

@@ -9,7 +9,7 @@ use Rattle.item_actions.specs.declared.outcomes.Outcome.{Outcome}
 use Rattle.worker_choices.specs.NextSteps.{can_take_up}
 use Rattle.coordination.specs.Names.{Finds, HasFinished, claimed_shown, locks_shown, parked_shown}
 use Rattle.coordination.specs.declared.rule.Sight.{Sight}
-use Rattle.coordination.proofs.lemmas.Entries.{belongs_sound, good_sound}
+use Rattle.worker_notes.proofs.lemmas.Entries.{belongs_sound, good_sound}
 use Rattle.coordination.proofs.lemmas.Shown.{ShowsAfter, shows_after}
 use Rattle.blocking_section.specs.BlockedView.{BlockedView}
 use Rattle.blocking_section.specs.Sections.{CanNotTakeUp, FitsUnit, HasTakenUp, HasUnit, IsGivenBackBy, closed_with, without_unit}

@@ -13,7 +13,7 @@ use Rattle.lock_transforms.proofs.lemmas.Disabled.{all_of_still, and_still}
 use Rattle.lock_journal.proofs.lemmas.Fitting.{RangesApart, apart_of}
 use Rattle.lock_journal.proofs.lemmas.Growing.{marks_stay}
 use Rattle.lock_journal.proofs.lemmas.OwnTasks.{actions_stay, waiting_units_stay}
-use Rattle.coordination.specs.Agrees.{Finds}
+use Rattle.worker_notes.specs.Agrees.{Finds}
 use Rattle.coordination.specs.declared.rule.Sight.{Sight}
 use Rattle.blocking_section.specs.Sections.{CouldEnter, IsNotReady, is_ready}
 

@@ -1,5 +1,5 @@
 ghost use Rattle.std.specs.Prelude.{◌≡◌};
-ghost use Rattle.coordination.specs.Agrees.{Agrees};
+ghost use Rattle.worker_notes.specs.Agrees.{Agrees};
 ghost use Rattle.coordination.specs.declared.rule.Sight.{Sight};
 ghost use Rattle.blocking_section.specs.BlockedView.{BlockedView};
 ghost use Rattle.blocking_section.specs.Sections.{IsGivenBackBy};

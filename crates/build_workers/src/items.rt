@@ -4,7 +4,7 @@ ghost use Rattle.item_actions.specs.declared.outcomes.Outcome.TheVariants as out
 ghost use Rattle.resource_lock.specs.Fits.{Fits};
 ghost use Rattle.resource_lock.specs.declared.marks.MarkId.TheVariants as ids;
 ghost use Rattle.coordination.specs.Decisions.{HasDecided};
-ghost use Rattle.coordination.specs.Offered.{AsTold};
+ghost use Rattle.worker_notes.specs.Offered.{AsTold};
 ghost use Rattle.coordination.specs.Planned.{TellsOwn};
 ghost use Rattle.coordination.specs.Shown.{claimed_shown, lease_shown};
 ghost use Rattle.async_tracker.specs.Shows.{IsItemHere, ShowsClosed};
@@ -19,12 +19,11 @@ use crate::site::Site;
 use crate::spares::stop_spare;
 use crate::worker::Worker;
 use async_tracker::{close, close_then};
-use coordination::{Decided, Decision, Halt, Pass};
+use coordination::{Decided, Decision, Halt, Pass, current_lease};
 use daemon_desk::Desk;
 use daemon_requirements::Linked;
 use file_access::Gate;
 use item_work::{Ran, SharedPool, run_item};
-use lease_service::current_lease;
 use lock_transforms::Closed;
 
 // An item that was run: what is closed, and a daemon that is one too many.

@@ -3,8 +3,8 @@ use crate::desks::copies_of;
 use crate::each::{Each, each_of};
 use crate::fails::CaseFail;
 use crate::sections::{Section, number_of, rest_of};
-use file_access::FileEntry;
 use item_actions::Text;
+use memory_files::FileEntry;
 use std::alloc::{AllocError, Global};
 
 /// More bytes than a call writes.

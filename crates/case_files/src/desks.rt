@@ -1,12 +1,12 @@
 //! The desks of a call.
 ghost use Rattle.std.specs.Prelude.{◌≡◌, All, IfOk, IfSome, length};
-ghost use Rattle.file_access.specs.Folders.{folder_of};
-ghost use Rattle.daemon_desk.specs.MemoryDeskView.{known_files};
+ghost use Rattle.memory_files.specs.Folders.{folder_of};
+ghost use Rattle.memory_desk.specs.MemoryDeskView.{known_files};
 
 use crate::cases::Case;
 use crate::fails::CaseFail;
-use daemon_desk::{Lie, MemoryDesk};
-use file_access::{FileEntry, FileMap};
+use memory_desk::{Lie, MemoryDesk};
+use memory_files::{FileEntry, FileMap};
 use std::alloc::{AllocError, Global};
 
 // An equal file.

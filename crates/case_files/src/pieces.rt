@@ -2,7 +2,8 @@
 use crate::cases::Case;
 use crate::each::Each;
 use crate::fails::CaseFail;
-use file_access::{Failed, MemorySink, MemorySource, Sink, Source};
+use file_access::{Failed, Sink, Source};
+use memory_files::{MemorySink, MemorySource};
 use std::alloc::Global;
 use std::cmp::min;
 

@@ -13,8 +13,8 @@ use Rattle.coordination.specs.Names.{Agrees, IsSoundBook, HoldsNothing, PassView
 use Rattle.coordination.specs.declared.rule.Sight.{Sight}
 use Rattle.coordination.specs.Sights.{no_book}
 use Rattle.coordination.proofs.Closing.{there_is}
-use Rattle.coordination.proofs.lemmas.Entries.{belongs_sound}
-use Rattle.coordination.proofs.lemmas.Nothing.{owns_none, runs_none}
+use Rattle.worker_notes.proofs.lemmas.Entries.{belongs_sound}
+use Rattle.worker_notes.proofs.lemmas.Nothing.{owns_none, runs_none}
 
 -- a fact of each pass is one of each sight
 pub to_sights : (P : Sight → Type 0) (ps : List PassView) → All (λ p. P p.sight) ps → All P (map (λ p. p.sight) ps)

@@ -13,20 +13,20 @@ use Rattle.worker_choices.specs.declared.woken.Woken.{Woken}
 use Rattle.worker_choices.specs.declared.woken.Woken.TheVariants as woken
 use Rattle.coordination.specs.declared.decisions.Decided.{Decided}
 use Rattle.coordination.specs.declared.decisions.Decided.TheVariants as decided
-use Rattle.coordination.specs.declared.parts.WorkerPart.{WorkerPart}
-use Rattle.coordination.specs.declared.sleepers.Sleepers.{Sleepers}
-use Rattle.coordination.specs.declared.sleepers.Wakes.{Wakes}
+use Rattle.worker_notes.specs.declared.parts.WorkerPart.{WorkerPart}
+use Rattle.worker_notes.specs.declared.sleepers.Sleepers.{Sleepers}
+use Rattle.worker_notes.specs.declared.sleepers.Wakes.{Wakes}
 use Rattle.coordination.specs.declared.turns.Came.{Came}
 use Rattle.coordination.specs.declared.turns.Came.TheVariants as came
 use Rattle.coordination.specs.Attempts.{Cause, HasAsked, HasHeld, HasRunFirst, Making}
 use Rattle.coordination.specs.Decisions.{DecideGives, EndsDecision, HadStep, HasDecidedHeld, noted_deciding, stance_entered}
-use Rattle.coordination.specs.SleepAndWake.{EndsHold, IsAwake, begun, has_entered, looks_behind_answers, looks_if, noted_after, noted_asking, stance_after, stance_asking, stance_waiting, stances_after, woken_if}
-use Rattle.coordination.specs.Offered.{AnswersWith, Telling, WaitsWith}
-use Rattle.coordination.specs.declared.outside_work.Queued.{Queued}
-use Rattle.coordination.specs.declared.sleepers.Then.{Then}
-use Rattle.coordination.specs.declared.sleepers.Then.TheVariants.{Leaves as ThenLeaves}
+use Rattle.worker_notes.specs.SleepAndWake.{EndsHold, IsAwake, begun, has_entered, looks_behind_answers, looks_if, noted_after, noted_asking, stance_after, stance_asking, stance_waiting, stances_after, woken_if}
+use Rattle.worker_notes.specs.Offered.{AnswersWith, Telling, WaitsWith}
+use Rattle.worker_notes.specs.declared.outside_work.Queued.{Queued}
+use Rattle.worker_notes.specs.declared.sleepers.Then.{Then}
+use Rattle.worker_notes.specs.declared.sleepers.Then.TheVariants.{Leaves as ThenLeaves}
 use Rattle.coordination.specs.Turns.{Leaves}
-use Rattle.coordination.proofs.Sleeping.{none_sleeps}
+use Rattle.worker_notes.proofs.Sleeping.{none_sleeps}
 
 looks_awake : (b : Bool) (a : Awaited) → looks_if b ≢ Sleeps a
 looks_awake true a is = cc

@@ -10,7 +10,7 @@ use Rattle.coordination.specs.declared.decisions.Followed.TheVariants as followe
 use Rattle.coordination.specs.declared.rule.Sight.{Sight}
 use Rattle.coordination.specs.Turns.{Finishes, HasDone}
 use Rattle.coordination.proofs.TakenBooks.{adds_own}
-use Rattle.coordination.proofs.lemmas.Growing.{agrees_self}
+use Rattle.worker_notes.proofs.lemmas.Growing.{agrees_self}
 
 module _ (kind : Kind) (makes : Making) (fails : Cause) (s s' : Sight) where
   pub has_finished : HasDone (RunGives kind makes fails) s s' true → HasFinished kind makes s s'

@@ -6,7 +6,7 @@ use Rattle.std.proofs.lemmas.List.Elements.{All-weaker}
 use Rattle.lock_journal.specs.Names.{IsAtRest, BookView}
 use Rattle.coordination.specs.Names.{HoldsNothing, PassView, ServiceId, sights_from}
 use Rattle.coordination.specs.declared.rule.Sight.{Sight}
-use Rattle.coordination.proofs.lemmas.Nothing.{owns_nothing, runs_nothing}
+use Rattle.worker_notes.proofs.lemmas.Nothing.{owns_nothing, runs_nothing}
 
 first_sights : (w n : ℕ) (book : BookView) → All (λ (s : Sight). s.seen ≡ book) (sights_from w n book)
 first_sights w zero book k d lt = absurd (omega arith)

@@ -7,12 +7,12 @@ use Rattle.history_views.specs.ShownBooks.{IsTold, IsUnchanged}
 use Rattle.coordination.specs.Names.{Agrees, AddsOwn, M, Taken, carried_book, one, seeing, sight_of}
 use Rattle.coordination.specs.Giving.{HasTakenHistory, HasTakenNone}
 use Rattle.coordination.specs.Passes.{IsPass}
-use Rattle.coordination.specs.declared.parts.Notes.{Notes}
+use Rattle.coordination.specs.declared.passes.Notes.{Notes}
 use Rattle.coordination.specs.declared.rule.Sight.{Sight}
 use Rattle.coordination.specs.declared.rule.SeatView.{SeatView}
 use Rattle.coordination.proofs.PassSteps.{closes_pass, part_on}
 use Rattle.coordination.proofs.TakenBooks.{sound-same, taken_book, taken_sight}
-use Rattle.coordination.proofs.lemmas.Growing.{agrees_same, agrees_then}
+use Rattle.worker_notes.proofs.lemmas.Growing.{agrees_same, agrees_then}
 
 -- a book that gives, or can't, has the graph, the state and the history that it had
 left_by : (given : Bool) (old new : BookView) (s s' : SegmentView) → (given ≡ true → GivesTo old new s s') → (given ≡ false → (new ≡ old) × (s' ≡ s)) → IsUnchanged old new

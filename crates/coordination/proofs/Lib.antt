@@ -11,17 +11,10 @@ pub mod Closing
 pub mod Taking
 pub mod Ended
 pub mod Opening
-pub mod SortedLists
-pub mod Rising
-pub mod Following
-pub mod HandedBack
-pub mod ItemEntries
-pub mod KnownChanges
 pub mod AtRest
 pub mod Totals
 pub mod Together
 pub mod FirstSights
-pub mod Sleeping
 pub mod Awake
 pub mod Woken
 pub mod Quiet

@@ -19,7 +19,7 @@ use Rattle.coordination.specs.declared.rule.SeatView.{SeatView}
 use Rattle.coordination.specs.Sights.{stopping, holding}
 use Rattle.logbook.specs.Pages.{Book as Ledger}
 use Rattle.coordination.specs.Rule.{TellsHolder, stopped_at, heard, marked}
-use Rattle.coordination.proofs.lemmas.Growing.{goes_on, agrees_self, agrees_then}
+use Rattle.worker_notes.proofs.lemmas.Growing.{goes_on, agrees_self, agrees_then}
 
 abbrev pub S : Type 0
 S = State KeptView SeatView

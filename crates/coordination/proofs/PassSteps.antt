@@ -1,11 +1,11 @@
 -- A pass closes again after its steps.
 use Rattle.std.proofs.Common.{◌≡◌, ◌≤◌, ℕ, arith, Option, Some, None, List, refl, sym, ap, ◌∙◌, subst, [], ◌∷◌}
 use Rattle.lock_journal.specs.Names.{WorkerId, BookView}
-use Rattle.coordination.specs.declared.parts.Notes.{Notes}
-use Rattle.coordination.specs.declared.parts.WorkerPart.{WorkerPart}
+use Rattle.coordination.specs.declared.passes.Notes.{Notes}
+use Rattle.worker_notes.specs.declared.parts.WorkerPart.{WorkerPart}
 use Rattle.coordination.specs.declared.rule.Sight.{Sight}
-use Rattle.coordination.specs.Agrees.{Agrees}
-use Rattle.coordination.specs.Parts.{HasLockRoom, HasRoom, IsPartOf}
+use Rattle.worker_notes.specs.Agrees.{Agrees}
+use Rattle.worker_notes.specs.Parts.{HasLockRoom, HasRoom, IsPartOf}
 use Rattle.history_views.specs.ShownBooks.{IsTold}
 use Rattle.coordination.specs.Passes.{IsPass, me_in, view_in}
 use Rattle.coordination.specs.declared.rule.SeatView.{SeatView}

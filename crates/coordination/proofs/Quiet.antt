@@ -13,13 +13,13 @@ use Rattle.worker_choices.specs.declared.stances.Stance.TheVariants.{Away, Sleep
 use Rattle.worker_choices.specs.declared.woken.Woken.{Woken}
 use Rattle.worker_choices.specs.declared.woken.Woken.TheVariants as woken
 use Rattle.coordination.specs.Names.{is_queued_in, TellsOwn, AreQuiet, HasWoken, woken_if}
-use Rattle.coordination.specs.SleepAndWake.{EndsTurn, IsWokenBy, stances_after}
-use Rattle.coordination.specs.declared.outside_work.Queued.{Queued}
-use Rattle.coordination.specs.declared.sleepers.Sleepers.{Sleepers}
-use Rattle.coordination.specs.declared.sleepers.Then.{Then}
-use Rattle.coordination.specs.declared.sleepers.Wakes.{Wakes}
+use Rattle.worker_notes.specs.SleepAndWake.{EndsTurn, IsWokenBy, stances_after}
+use Rattle.worker_notes.specs.declared.outside_work.Queued.{Queued}
+use Rattle.worker_notes.specs.declared.sleepers.Sleepers.{Sleepers}
+use Rattle.worker_notes.specs.declared.sleepers.Then.{Then}
+use Rattle.worker_notes.specs.declared.sleepers.Wakes.{Wakes}
 use Rattle.coordination.proofs.Awake.{stance_at}
-use Rattle.coordination.proofs.Sleeping.{none_sleeps, none_there}
+use Rattle.worker_notes.proofs.Sleeping.{none_sleeps, none_there}
 use Rattle.coordination.proofs.Woken.{ToldOrAwake}
 
 -- nobody sleeps

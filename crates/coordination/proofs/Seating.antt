@@ -13,7 +13,7 @@ use Rattle.coordination.specs.declared.rule.SeatView.{SeatView}
 use Rattle.coordination.specs.Sights.{nobody, starting}
 use Rattle.logbook.specs.Pages.{Book as Ledger}
 use Rattle.coordination.specs.Rule.{both_sights}
-use Rattle.coordination.proofs.lemmas.Growing.{agrees_self}
+use Rattle.worker_notes.proofs.lemmas.Growing.{agrees_self}
 use Rattle.coordination.proofs.Moves.{set_views, more_views}
 
 -- the same at another seat

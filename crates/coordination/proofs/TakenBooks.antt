@@ -10,8 +10,8 @@ use Rattle.coordination.specs.Names.{HasTurned, Leaves, sight_at, Follows, HasRo
 use Rattle.coordination.specs.declared.rule.Sight.{Sight}
 use Rattle.coordination.specs.Attempts.{Answers, Asked, Attempted}
 use Rattle.coordination.specs.declared.turns.Came.{Came}
-use Rattle.coordination.specs.Parts.{Grew, HasRoomIfFinished}
-use Rattle.coordination.specs.declared.parts.WorkerPart.{WorkerPart}
+use Rattle.worker_notes.specs.Parts.{Grew, HasRoomIfFinished}
+use Rattle.worker_notes.specs.declared.parts.WorkerPart.{WorkerPart}
 use Rattle.coordination.proofs.PassSteps.{part_on}
 
 -- the four clauses of the call together

@@ -7,7 +7,7 @@ use Rattle.lock_journal.specs.Names.{owned_from, Closed}
 use Rattle.coordination.specs.Names.{Agrees, IsSoundBook, PassView, workers_from}
 use Rattle.coordination.specs.Together.{ComeTo, closed_of_pass, entries_of, has_lease, locks_of}
 use Rattle.coordination.proofs.Closing.{how_many, worker_at}
-use Rattle.coordination.proofs.lemmas.Entries.{belongs_sound, good_sound}
+use Rattle.worker_notes.proofs.lemmas.Entries.{belongs_sound, good_sound}
 use Rattle.coordination.proofs.AtRest.{known_entries}
 use Rattle.coordination.proofs.Totals.{all_ones, closed_all, closed_each, is_total, one_each, sorted, spread, total, total-map, total-same, weight_of}
 

@@ -9,7 +9,7 @@ use Rattle.coordination.specs.declared.rule.Sight.{Sight}
 use Rattle.coordination.specs.declared.turns.Came.{Came}
 use Rattle.coordination.specs.declared.turns.Came.TheVariants as came
 use Rattle.coordination.specs.Turns.{HasDone, OnlyLooked}
-use Rattle.coordination.proofs.lemmas.Growing.{agrees_same, agrees_self, agrees_then}
+use Rattle.worker_notes.proofs.lemmas.Growing.{agrees_same, agrees_self, agrees_then}
 
 pub same_halt : {A : Type 0} (v w : WorkerId) → ◌≡◌ {A = Result A Halt} (Err (Stopped v)) (Err (Stopped w)) → v ≡ w
 same_halt v w is = cc

@@ -7,21 +7,21 @@ use Rattle.coordination.specs.declared.decisions.Decided.{Decided}
 use Rattle.coordination.specs.declared.decisions.Decided.TheVariants as decided
 use Rattle.coordination.specs.declared.decisions.Followed.{Followed}
 use Rattle.coordination.specs.declared.decisions.Followed.TheVariants as followed
-use Rattle.coordination.specs.declared.parts.WorkerPart.{WorkerPart}
-use Rattle.coordination.specs.declared.sleepers.Sleepers.{Sleepers}
-use Rattle.coordination.specs.declared.sleepers.Wakes.{Wakes}
+use Rattle.worker_notes.specs.declared.parts.WorkerPart.{WorkerPart}
+use Rattle.worker_notes.specs.declared.sleepers.Sleepers.{Sleepers}
+use Rattle.worker_notes.specs.declared.sleepers.Wakes.{Wakes}
 use Rattle.coordination.specs.declared.turns.Came.{Came}
 use Rattle.coordination.specs.declared.turns.Came.TheVariants as came
 use Rattle.coordination.specs.Attempts.{Answers, Cause, HasRun, HasRunOn, Making, Ran}
 use Rattle.coordination.specs.Decisions.{DecideGives, HadStep, HasStepped, carried_out}
-use Rattle.coordination.specs.Offered.{AnswersWith, AsTold, Telling, TellsQueued, WaitsAsTold, WaitsWith, is_queued_in}
-use Rattle.coordination.specs.declared.outside_work.Queued.{Queued}
+use Rattle.worker_notes.specs.Offered.{AnswersWith, AsTold, Telling, TellsQueued, WaitsAsTold, WaitsWith, is_queued_in}
+use Rattle.worker_notes.specs.declared.outside_work.Queued.{Queued}
 use Rattle.coordination.specs.RunThenDecide.{FollowGives, followed_of}
-use Rattle.coordination.specs.Parts.{HasRoom, IsPartHere, IsPartOf}
+use Rattle.worker_notes.specs.Parts.{HasRoom, IsPartHere, IsPartOf}
 use Rattle.coordination.specs.Rule.{AddsOwn}
 use Rattle.coordination.specs.Turns.{AskGives, Finishes, HasLeft, Leaves, RunGives, came_of, sight_at}
 use Rattle.coordination.proofs.TakenBooks.{adds_own, same_own}
-use Rattle.coordination.proofs.lemmas.Growing.{none_of-append}
+use Rattle.worker_notes.proofs.lemmas.Growing.{none_of-append}
 
 same_book : (old new : BookView) → new ≡ old → IsUnchanged old new
 same_book old new is = record { graph = ap (λ (b : BookView). b.graph) is; state = ap (λ (b : BookView). b.state) is; history = ap (λ (b : BookView). b.history) is }

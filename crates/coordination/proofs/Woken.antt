@@ -10,18 +10,18 @@ use Rattle.worker_choices.specs.declared.stances.Stance.{Stance}
 use Rattle.worker_choices.specs.declared.stances.Stance.TheVariants.{Away}
 use Rattle.coordination.specs.declared.decisions.Decided.{Decided}
 use Rattle.coordination.specs.declared.decisions.Decided.TheVariants as decided
-use Rattle.coordination.specs.declared.parts.WorkerPart.{WorkerPart}
-use Rattle.coordination.specs.declared.sleepers.Sleepers.{Sleepers}
-use Rattle.coordination.specs.declared.sleepers.Wakes.{Wakes}
+use Rattle.worker_notes.specs.declared.parts.WorkerPart.{WorkerPart}
+use Rattle.worker_notes.specs.declared.sleepers.Sleepers.{Sleepers}
+use Rattle.worker_notes.specs.declared.sleepers.Wakes.{Wakes}
 use Rattle.coordination.specs.declared.turns.Came.{Came}
 use Rattle.coordination.specs.declared.turns.Came.TheVariants as came
 use Rattle.coordination.specs.Attempts.{Cause, HasAsked, HasHeld, HasRunFirst, Making, Ran}
 use Rattle.coordination.specs.Decisions.{DecideGives, EndsDecision, HadStep, HasDecidedHeld, noted_deciding, stance_entered}
-use Rattle.coordination.specs.Offered.{AnswersWith, AreTold, Telling, TellsQueued, WaitsWith}
-use Rattle.coordination.specs.declared.outside_work.Queued.{Queued}
-use Rattle.coordination.specs.declared.sleepers.Then.{Then}
-use Rattle.coordination.specs.declared.sleepers.Then.TheVariants.{Leaves as ThenLeaves}
-use Rattle.coordination.specs.SleepAndWake.{EndsHold, GoesOn, HasGoneOn, HasWoken, begun, comes_again, entries_let_go_on, has_entered, looks_behind_answers, looks_if, noted_after, noted_asking, stance_after, stance_asking, stance_waiting, woken_if}
+use Rattle.worker_notes.specs.Offered.{AnswersWith, AreTold, Telling, TellsQueued, WaitsWith}
+use Rattle.worker_notes.specs.declared.outside_work.Queued.{Queued}
+use Rattle.worker_notes.specs.declared.sleepers.Then.{Then}
+use Rattle.worker_notes.specs.declared.sleepers.Then.TheVariants.{Leaves as ThenLeaves}
+use Rattle.worker_notes.specs.SleepAndWake.{EndsHold, GoesOn, HasGoneOn, HasWoken, begun, comes_again, entries_let_go_on, has_entered, looks_behind_answers, looks_if, noted_after, noted_asking, stance_after, stance_asking, stance_waiting, woken_if}
 use Rattle.coordination.specs.Turns.{Leaves}
 
 -- one entry more

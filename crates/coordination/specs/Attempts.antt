@@ -7,18 +7,18 @@ use Rattle.lock_transforms.specs.declared.transforms.Disposition.TheVariants.{Fa
 use Rattle.worker_choices.specs.GoingOn.{last_lets_go_on}
 use Rattle.worker_choices.specs.Stances.{asleep}
 use Rattle.worker_choices.specs.declared.awaited.Awaited.{Awaited}
-use Rattle.coordination.specs.declared.parts.WorkerPart.{WorkerPart}
+use Rattle.worker_notes.specs.declared.parts.WorkerPart.{WorkerPart}
 use Rattle.coordination.specs.declared.rule.Sight.{Sight}
-use Rattle.coordination.specs.declared.outside_work.Queued.{Queued}
-use Rattle.coordination.specs.declared.sleepers.Sleepers.{Sleepers}
-use Rattle.coordination.specs.declared.sleepers.Then.{Then}
-use Rattle.coordination.specs.declared.sleepers.Then.TheVariants.{Leaves}
-use Rattle.coordination.specs.declared.sleepers.Wakes.{Wakes}
-use Rattle.coordination.specs.Agrees.{Finds, IsSoundBook}
-use Rattle.coordination.specs.Offered.{AnswersWith, Telling, TellsQueued, WaitsWith}
-use Rattle.coordination.specs.Parts.{HasRoom, IsPartOf}
+use Rattle.worker_notes.specs.declared.outside_work.Queued.{Queued}
+use Rattle.worker_notes.specs.declared.sleepers.Sleepers.{Sleepers}
+use Rattle.worker_notes.specs.declared.sleepers.Then.{Then}
+use Rattle.worker_notes.specs.declared.sleepers.Then.TheVariants.{Leaves}
+use Rattle.worker_notes.specs.declared.sleepers.Wakes.{Wakes}
+use Rattle.worker_notes.specs.Agrees.{Finds, IsSoundBook}
+use Rattle.worker_notes.specs.Offered.{AnswersWith, Telling, TellsQueued, WaitsWith}
+use Rattle.worker_notes.specs.Parts.{HasRoom, IsPartOf}
 use Rattle.coordination.specs.Sights.{seeing}
-use Rattle.coordination.specs.SleepAndWake.{EndsHold, GoesOn, begun, has_entered, noted_after, noted_asking, stance_after, stance_asking, woken_if}
+use Rattle.worker_notes.specs.SleepAndWake.{EndsHold, GoesOn, begun, has_entered, noted_after, noted_asking, stance_after, stance_asking, woken_if}
 
 -- where a transform may fail, or ask to be run again
 abbrev pub Cause : Type 1

@@ -3,7 +3,7 @@ use Rattle.std.specs.Prelude.{◌≡◌, ◌<◌, ◌⊎◌, List}
 use Rattle.lock_journal.specs.Names.{WorkerId, Change, BookView, Kind}
 use Rattle.lock_journal.specs.Ran as journal
 use Rattle.coordination.specs.declared.rule.Sight.{Sight}
-use Rattle.coordination.specs.Agrees.{Finds, IsSoundBook}
+use Rattle.worker_notes.specs.Agrees.{Finds, IsSoundBook}
 use Rattle.coordination.specs.Attempts.{Cause, Making}
 use Rattle.coordination.specs.Sights.{seeing, stopping, hearing}
 

@@ -2,7 +2,7 @@
 use Rattle.std.specs.Prelude.{◌≡◌, ◌<◌, List, true, Some}
 use Rattle.std.specs.List.{All, Any}
 use Rattle.lock_journal.specs.Names.{IsAtRest, GraphView, WorkerId, BookView}
-use Rattle.coordination.specs.Agrees.{Agrees}
+use Rattle.worker_notes.specs.Agrees.{Agrees}
 use Rattle.coordination.specs.Holds.{HoldsNothing}
 use Rattle.coordination.specs.Passes.{PassView}
 use Rattle.coordination.specs.Together.{ComeTo}

@@ -6,21 +6,21 @@ use Rattle.lock_transforms.specs.declared.transforms.Disposition.TheVariants.{Fa
 use Rattle.worker_choices.specs.declared.awaited.Awaited.{Awaited}
 use Rattle.worker_choices.specs.declared.stances.Stance.{Stance}
 use Rattle.worker_choices.specs.declared.stances.Stance.TheVariants.{Away}
-use Rattle.coordination.specs.Agrees.{Finds}
+use Rattle.worker_notes.specs.Agrees.{Finds}
 use Rattle.coordination.specs.Attempts.{Cause, Making}
 use Rattle.coordination.specs.Calls.{HasFailed, HasFinished, HasLooked, IsAnswered}
-use Rattle.coordination.specs.Offered.{AnswersWith, Telling, TellsQueued, WaitsWith}
-use Rattle.coordination.specs.SleepAndWake.{EndsHold, begun, comes_again, looks_behind_answers, looks_if, noted_asking, stance_waiting, woken_if}
+use Rattle.worker_notes.specs.Offered.{AnswersWith, Telling, TellsQueued, WaitsWith}
+use Rattle.worker_notes.specs.SleepAndWake.{EndsHold, begun, comes_again, looks_behind_answers, looks_if, noted_asking, stance_waiting, woken_if}
 use Rattle.coordination.specs.Sights.{seeing}
 use Rattle.coordination.specs.Turns.{Finishes, HasLeft}
-use Rattle.coordination.specs.declared.parts.WorkerPart.{WorkerPart}
+use Rattle.worker_notes.specs.declared.parts.WorkerPart.{WorkerPart}
 use Rattle.coordination.specs.declared.decisions.Decided.{Decided}
 use Rattle.coordination.specs.declared.decisions.Decided.TheVariants as decided
 use Rattle.coordination.specs.declared.rule.Sight.{Sight}
-use Rattle.coordination.specs.declared.outside_work.Queued.{Queued}
-use Rattle.coordination.specs.declared.sleepers.Sleepers.{Sleepers}
-use Rattle.coordination.specs.declared.sleepers.Then.{Then}
-use Rattle.coordination.specs.declared.sleepers.Wakes.{Wakes}
+use Rattle.worker_notes.specs.declared.outside_work.Queued.{Queued}
+use Rattle.worker_notes.specs.declared.sleepers.Sleepers.{Sleepers}
+use Rattle.worker_notes.specs.declared.sleepers.Then.{Then}
+use Rattle.worker_notes.specs.declared.sleepers.Wakes.{Wakes}
 use Rattle.coordination.specs.declared.turns.Came.{Came}
 use Rattle.coordination.specs.declared.turns.Came.TheVariants as came
 

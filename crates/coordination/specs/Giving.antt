@@ -2,7 +2,7 @@
 use Rattle.std.specs.Prelude.{◌≡◌}
 use Rattle.lock_journal.specs.Names.{BookView, GivesTo, SegmentView}
 use Rattle.lock_journal.specs.Giving.{CanGive}
-use Rattle.coordination.specs.Agrees.{Finds, IsSoundBook}
+use Rattle.worker_notes.specs.Agrees.{Finds, IsSoundBook}
 use Rattle.coordination.specs.Sights.{seeing}
 use Rattle.coordination.specs.declared.rule.Sight.{Sight}
 

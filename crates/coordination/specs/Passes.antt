@@ -4,8 +4,8 @@ use Rattle.logbook.specs.Pages.{Book as Ledger}
 use Rattle.atomic_table.specs.Seated.{TableId}
 use Rattle.lock_journal.specs.Names.{WorkerId, BookView}
 use Rattle.coordination.specs.declared.rule.Sight.{Sight}
-use Rattle.coordination.specs.Parts.{HasRoom, IsPartOf}
-use Rattle.coordination.specs.declared.parts.Notes.{Notes}
+use Rattle.worker_notes.specs.Parts.{HasRoom, IsPartOf}
+use Rattle.coordination.specs.declared.passes.Notes.{Notes}
 use Rattle.coordination.specs.declared.rule.SeatView.{SeatView}
 use Rattle.history_views.specs.ShownBooks.{IsTold}
 use Rattle.coordination.specs.Sights.{nobody, one, sight_of}

@@ -2,13 +2,13 @@
 use Rattle.std.specs.Prelude.{◌≡◌}
 use Rattle.lock_journal.specs.Names.{WorkerId, BookView}
 use Rattle.ready_work.specs.Choices.{has_queued}
-use Rattle.coordination.specs.Offered.{AreTold, Telling}
-use Rattle.coordination.specs.SleepAndWake.{AreQuiet, EndsTurn}
-use Rattle.coordination.specs.declared.outside_work.QueuedUnits.{QueuedUnits}
+use Rattle.worker_notes.specs.Offered.{AreTold, Telling}
+use Rattle.worker_notes.specs.SleepAndWake.{AreQuiet, EndsTurn}
+use Rattle.worker_notes.specs.declared.outside_work.QueuedUnits.{QueuedUnits}
 use Rattle.coordination.specs.declared.rule.Sight.{Sight}
-use Rattle.coordination.specs.declared.sleepers.Sleepers.{Sleepers}
-use Rattle.coordination.specs.declared.sleepers.Then.{Then}
-use Rattle.coordination.specs.declared.sleepers.Wakes.{Wakes}
+use Rattle.worker_notes.specs.declared.sleepers.Sleepers.{Sleepers}
+use Rattle.worker_notes.specs.declared.sleepers.Then.{Then}
+use Rattle.worker_notes.specs.declared.sleepers.Wakes.{Wakes}
 
 -- with each book it is told whether a unit is queued there
 abbrev pub TellsOwn : Telling

@@ -10,7 +10,7 @@ use Rattle.atomic_table.specs.Table.{State, Me, Step}
 use Rattle.lock_journal.specs.Names.{GraphView, WorkerId, Entry, BookView, NoneOf}
 use Rattle.coordination.specs.declared.rule.Sight.{Sight}
 use Rattle.coordination.specs.declared.rule.SeatView.{SeatView}
-use Rattle.coordination.specs.Agrees.{Agrees, Finds, IsSoundBook}
+use Rattle.worker_notes.specs.Agrees.{Agrees, Finds, IsSoundBook}
 use Rattle.coordination.specs.Kept.{KeptView, kept}
 use Rattle.coordination.specs.Sights.{seeing, stopping, hearing, one, holding, all_of, no_book, sight_of, workers_from}
 use Rattle.coordination.specs.Stops.{KnowsNoStop}

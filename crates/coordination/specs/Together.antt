@@ -2,7 +2,7 @@
 use Rattle.std.specs.Prelude.{◌≡◌, ◌≤◌, ℕ, Bool, List, [], ◌∷◌, ◌++◌, length, Contains, count_by, sum_by}
 use Rattle.std.specs.List.{AllPairs}
 use Rattle.lock_journal.specs.Names.{holding_of, LockId, Entry, BookView, owned, Closed, closed_by, closed_in}
-use Rattle.coordination.specs.WorkerEntries.{entry_count_of}
+use Rattle.worker_notes.specs.WorkerEntries.{entry_count_of}
 use Rattle.coordination.specs.Passes.{PassView}
 
 abbrev pub locks_of : PassView → List LockId

@@ -3,13 +3,13 @@ use Rattle.std.specs.Prelude.{◌≡◌, Bool, true, false, List, Result, Ok, Er
 use Rattle.lock_journal.specs.Names.{WorkerId, Change, BookView, FinishesIn, FailsIn, Kind, Disposition, Finished, Retry}
 use Rattle.history_views.specs.ShownBooks.{IsUnchanged}
 use Rattle.lock_transforms.specs.declared.transforms.Disposition.TheVariants.{Failed}
-use Rattle.coordination.specs.declared.parts.WorkerPart.{WorkerPart}
+use Rattle.worker_notes.specs.declared.parts.WorkerPart.{WorkerPart}
 use Rattle.coordination.specs.declared.rule.Sight.{Sight}
 use Rattle.coordination.specs.declared.turns.Came.{Came}
 use Rattle.coordination.specs.declared.turns.Came.TheVariants as came
-use Rattle.coordination.specs.Agrees.{Agrees, Finds, IsSoundBook}
+use Rattle.worker_notes.specs.Agrees.{Agrees, Finds, IsSoundBook}
 use Rattle.coordination.specs.Attempts.{Cause, Making}
-use Rattle.coordination.specs.Parts.{HasRoom, IsPartOf}
+use Rattle.worker_notes.specs.Parts.{HasRoom, IsPartOf}
 use Rattle.coordination.specs.Rule.{AddsOwn}
 use Rattle.coordination.specs.Sights.{seeing}
 

@@ -2,24 +2,23 @@
 ghost use Rattle.std.specs.Prelude.{◌≡◌, ◌<◌, IfNone, IfSome, false, true};
 ghost use Rattle.coordination.specs.Attempts.{Asked, Attempted};
 ghost use Rattle.coordination.specs.Calls.{HasStopped};
-ghost use Rattle.coordination.specs.Offered.{AnswersWith, WaitsWith};
-ghost use Rattle.coordination.specs.SleepAndWake.{EndsHold, has_entered, stance_after, stance_asking};
+ghost use Rattle.worker_notes.specs.Offered.{AnswersWith, WaitsWith};
+ghost use Rattle.worker_notes.specs.SleepAndWake.{EndsHold, has_entered, stance_after, stance_asking};
 ghost use Rattle.coordination.specs.Passes.{IsPass};
 ghost use Rattle.coordination.specs.Sights.{hearing, sight_of};
 ghost use Rattle.coordination.specs.Stops.{KnowsNoStop};
 
 use crate::halts::Halt;
 use crate::keepers::{Keeper, Kept, Runner};
-use crate::parts::Notes;
-use crate::passes::{Pass, seat_of};
+use crate::passes::{Notes, Pass, seat_of};
 use crate::questions::Question;
 use crate::rule::SeatView;
-use crate::sleepers::{Sleepers, Wakes};
 use crate::slots::Slot;
 use atomic_table::Seat;
 use lock_transforms::{Disposition, Transform};
 use resource_lock::WorkerId;
 use std::alloc::AllocError;
+use worker_notes::{Sleepers, Wakes};
 
 impl<K: Runner> Slot<K> {
     /// Runs the transform once, and tells whom its entry wakes of those that sleep. None says that another pass has the

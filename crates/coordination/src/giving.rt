@@ -10,9 +10,7 @@ ghost use Rattle.coordination.specs.Sights.{sight_of};
 
 use crate::guarded::Guarded;
 use crate::keepers::{Giver, Kept};
-use crate::outside_work::Offers;
-use crate::parts::Notes;
-use crate::passes::{Pass, seat_of};
+use crate::passes::{Notes, Pass, seat_of};
 use crate::rule::SeatView;
 use crate::services::Coordination;
 use crate::slots::Slot;
@@ -20,6 +18,7 @@ use atomic_table::Seat;
 use history_views::Reach;
 use lock_journal::Segment;
 use std::sync::Wait;
+use worker_notes::Offers;
 
 impl<O: Offers, K: Giver> Coordination<O, K> {
     /// Takes the history so far: gets the state lock and moves the entries that the book keeps into the segment, which has none. It takes

@@ -4,16 +4,14 @@ ghost use Rattle.worker_choices.specs.Stances.{asleep};
 ghost use Rattle.worker_choices.specs.declared.stances.Stance.TheVariants as stance;
 ghost use Rattle.history_views.specs.ShownBooks.{IsTold};
 ghost use Rattle.coordination.specs.Attempts.{HasAsked, HasHeld, HasRunFirst};
-ghost use Rattle.coordination.specs.Decisions.{HasDecidedHeld, awaits_if};
-ghost use Rattle.coordination.specs.Offered.{TellsQueued};
-ghost use Rattle.coordination.specs.Parts.{IsPartHere};
+ghost use Rattle.coordination.specs.Decisions.{HasDecidedHeld, awaits_if, noted_deciding};
+ghost use Rattle.worker_notes.specs.Offered.{TellsQueued};
+ghost use Rattle.worker_notes.specs.Parts.{IsPartHere};
 
 use crate::decisions::{Decided, Decision};
 use crate::keepers::{Giver, Keeper, Runner};
-use crate::outside_work::{Offers, Queued};
-use crate::parts::Notes;
+use crate::passes::Notes;
 use crate::questions::Question;
-use crate::sleepers::{Sleepers, Then, Wakes};
 use crate::slots::{ask_of, decide_on, go_on_by, run_on};
 use crate::turns::Came;
 use history_views::Reach;
@@ -22,6 +20,7 @@ use lock_transforms::{Disposition, Transform};
 use resource_lock::WorkerId;
 use std::alloc::{AllocError, Global};
 use worker_choices::Awaited;
+use worker_notes::{Offers, Queued, Sleepers, Then, Wakes};
 
 /// The keeper of the book, with who sleeps and what is offered beside it. Whoever has the book out of its slot has all three.
 #[derive(Drop)]
@@ -254,7 +253,7 @@ impl<O: Offers, K: Runner> Guarded<O, K> {
             awaited,
             &mut self.sleepers,
         );
-        self.sleepers.note_decision(caller.apart, &came);
+        note_decision(&mut self.sleepers, caller.apart, &came);
         (came, wakes)
     }
 }
@@ -264,4 +263,14 @@ fn awaited_if<Q: Question>(sleeps: bool, question: &Q) -> Option<Awaited>
     ensures { result ≡ awaits_if sleeps (Q.awaits question.now) }
 {
     if sleeps { question.awaited() } else { None }
+}
+
+// Notes that a decision sleeps, where it is to be made again. Where it doesn't sleep apart, any entry wakes it.
+#[inline]
+fn note_decision<C>(sleepers: &mut Sleepers, apart: bool, came: &Came<C>)
+    ensures { sleepers.new ≡ noted_deciding apart came.now sleepers.old }
+{
+    if matches!(came, Came::Again) && !apart {
+        sleepers.questions = true;
+    }
 }

@@ -2,8 +2,8 @@
 ghost use Rattle.std.specs.Prelude.{◌≡◌, [], ◌∷◌, None};
 ghost use Rattle.history_views.specs.ShownBooks.{IsTold};
 ghost use Rattle.coordination.specs.Kept.{kept};
-ghost use Rattle.coordination.specs.Offered.{AreTold};
-ghost use Rattle.coordination.specs.Parts.{IsPartHere};
+ghost use Rattle.worker_notes.specs.Offered.{AreTold};
+ghost use Rattle.worker_notes.specs.Parts.{IsPartHere};
 ghost use Rattle.coordination.specs.Passes.{IsPass};
 ghost use Rattle.coordination.specs.Rule.{carried_book};
 ghost use Rattle.coordination.specs.Sights.{sight_of};
@@ -11,15 +11,13 @@ ghost use Rattle.coordination.specs.Turns.{HasLeft, HasTurned};
 
 use crate::guarded::{Caller, Guarded};
 use crate::keepers::{Kept, Runner};
-use crate::outside_work::Offers;
-use crate::parts::Notes;
-use crate::passes::{Pass, seat_of};
+use crate::passes::{Notes, Pass, seat_of};
 use crate::rule::SeatView;
-use crate::sleepers::Wakes;
 use crate::slots::Slot;
 use crate::turns::{Came, Turn};
 use atomic_table::Seat;
 use std::sync::Wait;
+use worker_notes::{Offers, Wakes};
 
 impl<O: Offers, K: Runner> Slot<Guarded<O, K>> {
     /// Has a worker's turn in a hold of the state lock. It tells whom that wakes, and whom what comes behind a transform.

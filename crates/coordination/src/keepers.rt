@@ -172,6 +172,13 @@ pub struct LedgerName {
     pub reach: Reach,
 }
 
+// By hand, so that crates that let one go call this, in place of proving what it does anew.
+impl Drop for LedgerName {
+    fn drop(self) {
+        let LedgerName { reach: _ } = self;
+    }
+}
+
 impl Model for LedgerName {
     ghost use Rattle.logbook.specs.Pages.{Book};
 

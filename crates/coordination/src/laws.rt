@@ -10,8 +10,8 @@ ghost use Rattle.lock_transforms.specs.Allowed.{Lawful};
 ghost use Rattle.lock_transforms.specs.Entry.{Entry, replay};
 ghost use Rattle.lock_journal.specs.BookView.{BookView};
 ghost use Rattle.lock_journal.specs.Own.{NamesWorkers, claimed};
-ghost use Rattle.coordination.specs.Agrees.{IsSoundBook};
-ghost use Rattle.coordination.specs.FewMarks.{RunsFew};
+ghost use Rattle.worker_notes.specs.Agrees.{IsSoundBook};
+ghost use Rattle.worker_notes.specs.FewMarks.{RunsFew};
 ghost use Rattle.coordination.specs.Passes.{PassView};
 
 /// In the state that a run begins in nobody has anything, so a service can be opened with it.

@@ -9,11 +9,9 @@ mod guarded;
 mod halts;
 mod holds;
 mod keepers;
-mod last_entries;
 mod laws;
+mod leases;
 mod openings;
-mod outside_work;
-mod parts;
 mod passes;
 mod planned;
 mod questions;
@@ -22,10 +20,7 @@ mod seats;
 mod services;
 mod shown_services;
 mod sleep_and_wake;
-mod sleepers;
 mod slots;
-mod sorted_lists;
-mod stances;
 mod turns;
 
 pub use boxed_books::BoxedBook;
@@ -36,13 +31,13 @@ pub use laws::{
     openings_are_at_rest, sound_books_have_good_states, used_passes_have_their_numbers,
     workers_run_few_marks,
 };
-pub use outside_work::{Offers, Queued, QueuedUnits};
+pub use leases::{Lease, current_lease};
 pub use passes::Pass;
 pub use planned::Planned;
 pub use questions::Question;
 pub use rule::Sight;
 pub use services::{Coordination, Opened};
 pub use shown_services::{OpenedWithViews, ShownService};
-pub use sleepers::{Sleepers, Then, Wakes};
 pub use slots::Slot;
 pub use turns::{Ask, Awaits, Came, Decide, Run, RunThenDecide, Turn};
+pub use worker_notes::{Offers, Queued, QueuedUnits, Sleepers, Then, Wakes};

@@ -2,15 +2,12 @@
 ghost use Rattle.std.specs.Prelude.{◌≡◌, All, IfOk, length, map};
 ghost use Rattle.resource_lock.specs.AtRest.{IsAtRest};
 ghost use Rattle.history_views.specs.ShownBooks.{IsTold};
-ghost use Rattle.coordination.specs.Parts.{ArePartsFrom};
+ghost use Rattle.worker_notes.specs.Parts.{ArePartsFrom};
 ghost use Rattle.coordination.specs.Sights.{sights_from, workers_from};
 
 use crate::boxed_books::BoxedBook;
 use crate::guarded::Guarded;
 use crate::keepers::{Keeper, Runner};
-use crate::last_entries::last_number;
-use crate::outside_work::Offers;
-use crate::parts::WorkerPart;
 use crate::passes::Pass;
 use crate::services::{Coordination, service_of};
 use crate::slots::Slot;
@@ -19,6 +16,7 @@ use lock_journal::Book;
 use resource_lock::WorkerId;
 use std::alloc::{AllocError, Global};
 use std::sync::Condvar;
+use worker_notes::{Offers, WorkerPart, last_number};
 
 impl Slot {
     /// A service without its state lock over the book, in which nobody has anything, with a pass for each worker of its

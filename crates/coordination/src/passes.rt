@@ -1,19 +1,33 @@
 //! A worker's pass: what it has, and what it has seen of the book.
 ghost use Rattle.std.specs.Prelude.{◌≡◌, ◌∷◌, [], Some};
 ghost use Rattle.history_views.specs.Growing.{Exceeds, IsLater, last_book};
-ghost use Rattle.coordination.specs.WorkerEntries.{last_of};
+ghost use Rattle.worker_notes.specs.WorkerEntries.{last_of};
 ghost use Rattle.coordination.specs.Passes.{me_in, view_in};
 ghost use Rattle.coordination.specs.Shown.{blocked_shown, claimed_shown, lease_shown, locks_shown, parked_shown};
 
 use crate::keepers::{Keeper, Kept};
-use crate::parts::Notes;
 use crate::rule::SeatView;
-use crate::sleepers::Then;
 use atomic_table::{Badge, Seat};
-use history_views::View;
+use history_views::{Reach, View};
 use resource_lock::{LockId, MarkId, WorkerId};
 use std::marker::Model;
 use std::mem;
+use worker_notes::{Then, WorkerPart};
+
+/// What a pass keeps of the book that its worker last let go of.
+pub struct Notes {
+    /// The worker's part of it.
+    pub part: WorkerPart,
+    /// How far its history had come, where views are shown it.
+    pub reach: Option<Reach>,
+}
+
+// By hand, so that crates that let one go call this, in place of proving what it does anew.
+impl Drop for Notes {
+    fn drop(self) {
+        let Notes { part: _, reach: _ } = self;
+    }
+}
 
 /// A worker's part of a service. What it shows agrees with the book whenever the state is locked.
 #[derive(Drop)]

@@ -2,7 +2,7 @@
 ghost use Rattle.std.specs.Prelude.{◌≡◌, [], ◌∷◌, All, IfNone, IfOk, IfSome, None, map};
 ghost use Rattle.resource_lock.specs.AtRest.{IsAtRest};
 ghost use Rattle.coordination.specs.Kept.{kept};
-ghost use Rattle.coordination.specs.Parts.{IsPartHere};
+ghost use Rattle.worker_notes.specs.Parts.{IsPartHere};
 ghost use Rattle.coordination.specs.Passes.{IsPass};
 ghost use Rattle.coordination.specs.Planned.{HasEndedTry, HasEndedTryOf, TellsOwn};
 ghost use Rattle.history_views.specs.ShownBooks.{IsTold};
@@ -14,11 +14,8 @@ use crate::boxed_books::BoxedBook;
 use crate::guarded::{Caller, Guarded};
 use crate::keepers::{Keeper, Kept};
 use crate::openings::open_slot;
-use crate::outside_work::QueuedUnits;
-use crate::parts::Notes;
-use crate::passes::{Pass, seat_of};
+use crate::passes::{Notes, Pass, seat_of};
 use crate::rule::SeatView;
-use crate::sleepers::Wakes;
 use crate::slots::Slot;
 use crate::turns::{Came, Turn};
 use atomic_table::Seat;
@@ -26,6 +23,7 @@ use history_views::Reach;
 use lock_journal::Book;
 use std::alloc::{AllocError, Global};
 use std::marker::Model;
+use worker_notes::{QueuedUnits, Wakes};
 
 /// A book that offers its own queued units to be claimed, with who sleeps. Contracts see the book.
 ///
@@ -39,7 +37,7 @@ pub struct Planned {
 impl Model for Planned {
     ghost use Rattle.ready_work.specs.Choices.{has_queued};
     ghost use Rattle.lock_journal.specs.BookView.{BookView};
-    ghost use Rattle.coordination.specs.SleepAndWake.{AreQuiet};
+    ghost use Rattle.worker_notes.specs.SleepAndWake.{AreQuiet};
 
     ghost Value = { BookView };
 

@@ -21,6 +21,18 @@ pub struct Sight {
     pub stopped_by: Option<WorkerId>,
 }
 
+// By hand, so that crates that let one go call this, in place of proving what it does anew.
+impl Drop for Sight {
+    fn drop(self) {
+        let Sight {
+            worker: _,
+            seen: _,
+            stopped: _,
+            stopped_by: _,
+        } = self;
+    }
+}
+
 /// What a seat shows: the sights of its workers, and the book while it holds that. It is for
 /// contracts alone: no value of it is made.
 pub struct SeatView {
@@ -30,6 +42,17 @@ pub struct SeatView {
     pub out: Option<Book>,
     /// The ledger that shows the history of the book, if one does.
     pub ledger: Option<LedgerName>,
+}
+
+// By hand, so that crates that let one go call this, in place of proving what it does anew.
+impl Drop for SeatView {
+    fn drop(self) {
+        let SeatView {
+            sights: _,
+            out: _,
+            ledger: _,
+        } = self;
+    }
 }
 
 /// What a service is opened with.

@@ -1,17 +1,15 @@
 //! The seats of the passes: cut off in `open`, joined in `finish`.
 ghost use Rattle.std.specs.Prelude.{◌≡◌, ◌<◌, ◌≤◌, ◌^◌, [], ◌∷◌, All, IfOk, length, map, vec_capacity};
-ghost use Rattle.coordination.specs.Agrees.{IsSoundBook};
+ghost use Rattle.worker_notes.specs.Agrees.{IsSoundBook};
 ghost use Rattle.coordination.specs.Closings.{IsClosedBy};
 ghost use Rattle.history_views.specs.ShownBooks.{IsTold};
 ghost use Rattle.coordination.specs.Kept.{kept};
-ghost use Rattle.coordination.specs.Parts.{ArePartsFrom};
+ghost use Rattle.worker_notes.specs.Parts.{ArePartsFrom};
 ghost use Rattle.coordination.specs.Sights.{all_of, sights_from, starting, workers_from};
 
 use crate::keepers::{Keeper, Kept};
-use crate::parts::{Notes, WorkerPart};
-use crate::passes::Pass;
+use crate::passes::{Notes, Pass};
 use crate::rule::{OneWorker, OpenedWith, SeatView, Sit, TakeForGood};
-use crate::sleepers::Then;
 use crate::slots::Slot;
 use atomic_table::{Refused, Seat, Table};
 use history_views::Reach;
@@ -19,6 +17,7 @@ use lock_journal::Book;
 use resource_lock::WorkerId;
 use std::alloc::{AllocError, Global};
 use std::snapshot::Snapshot;
+use worker_notes::{Then, WorkerPart};
 
 impl<K: Keeper> OpenedWith<K> {
     // The book that a service is opened with, for contracts.

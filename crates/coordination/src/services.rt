@@ -1,12 +1,12 @@
 //! The service: one book for several workers, under the state lock.
 ghost use Rattle.std.specs.Prelude.{◌≡◌, ◌≢◌, ◌<◌, [], All, Any, IfOk, Ok, Err, Some, ℕ, length, map, slice_index, true, false};
 ghost use Rattle.resource_lock.specs.declared.ids.WorkerId.{WorkerId};
-ghost use Rattle.coordination.specs.Agrees.{Agrees};
+ghost use Rattle.worker_notes.specs.Agrees.{Agrees};
 ghost use Rattle.resource_lock.specs.AtRest.{IsAtRest};
 ghost use Rattle.coordination.specs.Holds.{HoldsNothing};
 ghost use Rattle.coordination.specs.Calls.{AskedInVain, HasFailed, HasFinished, HasLooked, HasStopped, IsAnswered, WasStopped};
 ghost use Rattle.coordination.specs.Decisions.{CouldNotStep, HasDecided};
-ghost use Rattle.coordination.specs.Offered.{AreTold, AsTold, WaitsAsTold};
+ghost use Rattle.worker_notes.specs.Offered.{AreTold, AsTold, WaitsAsTold};
 ghost use Rattle.coordination.specs.RunThenDecide.{HasFollowed};
 ghost use Rattle.coordination.specs.Sights.{sights_from, workers_from};
 ghost use Rattle.coordination.specs.Together.{ComeTo};
@@ -17,7 +17,6 @@ use crate::guarded::Guarded;
 use crate::halts::Halt;
 use crate::keepers::{Keeper, Runner};
 use crate::openings::open_service;
-use crate::outside_work::Offers;
 use crate::passes::Pass;
 use crate::questions::Question;
 use crate::sleep_and_wake::Condvars;
@@ -28,6 +27,7 @@ use lock_transforms::Transform;
 use std::alloc::{AllocError, Global};
 use std::marker::Model;
 use std::sync::{Condvar, Wait};
+use worker_notes::Offers;
 
 /// One book that several workers change, one at a time, with work that waits outside the book or none.
 ///

@@ -7,13 +7,13 @@ ghost use Rattle.coordination.specs.Holds.{HoldsNothing};
 ghost use Rattle.coordination.specs.Sights.{sights_from, workers_from};
 
 use crate::openings::open_service;
-use crate::outside_work::Offers;
 use crate::passes::Pass;
 use crate::services::Coordination;
 use history_views::{ShownBook, View};
 use lock_journal::Book;
 use std::alloc::{AllocError, Global};
 use std::sync::Wait;
+use worker_notes::Offers;
 
 /// A service that shows its history, or was opened without views.
 pub type ShownService<O, R> = Coordination<O, ShownBook<R>>;

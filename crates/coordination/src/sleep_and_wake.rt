@@ -2,20 +2,19 @@
 ghost use Rattle.std.specs.Prelude.{◌≡◌, IfOk, Err};
 ghost use Rattle.resource_lock.specs.declared.ids.WorkerId.{WorkerId};
 ghost use Rattle.coordination.specs.Calls.{AskedInVain, HasLooked};
-ghost use Rattle.coordination.specs.Offered.{AreTold};
+ghost use Rattle.worker_notes.specs.Offered.{AreTold};
 ghost use Rattle.coordination.specs.Turns.{HasDone};
 
 use crate::halts::Halt;
 use crate::keepers::Runner;
-use crate::outside_work::Offers;
 use crate::passes::Pass;
 use crate::services::Coordination;
-use crate::sleepers::Wakes;
 use crate::turns::{Awaits, Came, Turn};
 use resource_lock::WorkerId;
 use std::sync::{Condvar, Wait};
 use std::time::Duration;
 use worker_choices::Woken;
+use worker_notes::{Offers, Wakes};
 
 /// What the workers of a service sleep on.
 #[derive(Drop)]

@@ -2,11 +2,11 @@
 ghost use Rattle.std.specs.Prelude.{◌≡◌, ◌≢◌, ◌<◌, ◌≤◌, ◌+◌, ◌-◌, ◌^◌, [], ◌∷◌, length, true, false, IfNone, IfSome, None};
 ghost use Rattle.coordination.specs.Attempts.{Answers, HasRun, HasRunOn, Ran};
 ghost use Rattle.coordination.specs.Decisions.{DecideGives, EndsDecision, HadStep, carried_out};
-ghost use Rattle.coordination.specs.SleepAndWake.{EndsHold, stance_asking};
+ghost use Rattle.worker_notes.specs.SleepAndWake.{EndsHold, stance_asking};
 ghost use Rattle.history_views.specs.ShownBooks.{IsTold};
 ghost use Rattle.coordination.specs.Kept.{kept};
-ghost use Rattle.coordination.specs.Offered.{AnswersWith, WaitsWith};
-ghost use Rattle.coordination.specs.Parts.{HasRoom, HasRoomIfFinished, IsPartHere};
+ghost use Rattle.worker_notes.specs.Offered.{AnswersWith, WaitsWith};
+ghost use Rattle.worker_notes.specs.Parts.{HasRoom, HasRoomIfFinished, IsPartHere};
 ghost use Rattle.coordination.specs.Rule.{AddsOwn, Hears, Taken, carried_book};
 ghost use Rattle.coordination.specs.Sights.{holding, one, seeing, sight_of, stopping};
 ghost use Rattle.coordination.specs.Stops.{KnowsNoStop};
@@ -15,10 +15,9 @@ ghost use Rattle.coordination.specs.Turns.{HasLeft};
 use crate::boxed_books::BoxedBook;
 use crate::decisions::{Decided, Decision};
 use crate::keepers::{Keeper, Kept, Runner};
-use crate::parts::{Notes, WorkerPart};
+use crate::passes::Notes;
 use crate::questions::Question;
 use crate::rule::{Hear, OpenedWith, Order, PutBack, SeatView, Stop, Take};
-use crate::sleepers::{Sleepers, Wakes};
 use crate::turns::Came;
 use atomic_table::{Seat, Table};
 use history_views::Reach;
@@ -28,6 +27,7 @@ use std::alloc::{AllocError, Global};
 use std::hint::spin_loop;
 use std::sync::Wait;
 use worker_choices::Awaited;
+use worker_notes::{Sleepers, Wakes, WorkerPart};
 
 // How often a worker looks whether the book is back before it sleeps.
 const LOOKS: u32 = 100;

@@ -3,22 +3,21 @@ ghost use Rattle.std.specs.Prelude.{◌≡◌, ◌≢◌, None};
 ghost use Rattle.resource_lock.specs.declared.ids.WorkerId.{WorkerId};
 ghost use Rattle.lock_journal.specs.BookView.{BookView};
 ghost use Rattle.history_views.specs.ShownBooks.{IsTold};
-ghost use Rattle.coordination.specs.Parts.{IsPartHere};
+ghost use Rattle.worker_notes.specs.Parts.{IsPartHere};
 ghost use Rattle.coordination.specs.Decisions.{DecideGives, HadStep};
-ghost use Rattle.coordination.specs.Offered.{AreTold, AsTold, Telling, WaitsAsTold};
+ghost use Rattle.worker_notes.specs.Offered.{AreTold, AsTold, Telling, WaitsAsTold};
 ghost use Rattle.coordination.specs.RunThenDecide.{FollowGives, followed_of};
-ghost use Rattle.coordination.specs.SleepAndWake.{EndsTurn, IsAwake};
+ghost use Rattle.worker_notes.specs.SleepAndWake.{EndsTurn, IsAwake};
 ghost use Rattle.coordination.specs.Turns.{AskGives, HasLeft, RunGives, came_of};
 
 use crate::decisions::{Decided, Decision, Followed};
 use crate::guarded::{Caller, Guarded};
 use crate::keepers::Runner;
-use crate::outside_work::Offers;
-use crate::parts::Notes;
+use crate::passes::Notes;
 use crate::questions::Question;
-use crate::sleepers::Wakes;
 use lock_transforms::{Disposition, Transform};
 use std::alloc::AllocError;
+use worker_notes::{Offers, Wakes};
 
 /// What came of a turn.
 #[derive(Drop)]

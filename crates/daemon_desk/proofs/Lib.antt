@@ -1,5 +1,3 @@
-mod Honesty
-mod Told
 mod Variables
 mod Services
 mod Supplies

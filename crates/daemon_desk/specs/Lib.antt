@@ -1,7 +1,6 @@
 pub mod Commands
 pub mod FolderDeskView
 pub mod LinkView
-pub mod MemoryDeskView
 pub mod PipeLinkView
 pub mod Replies
 pub mod Requests

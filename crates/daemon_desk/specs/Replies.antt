@@ -1,5 +1,5 @@
 -- A daemon's reply to a request.
-use Rattle.std.specs.Prelude.{◌≡◌, ◌≢◌, ◌==◌, ◌&&◌, ℕ, List, Bool, true, false, Option, None, Some, IfSome, Result, Ok, Err, if◌then◌else◌}
+use Rattle.std.specs.Prelude.{◌≡◌, ◌≢◌, ◌==◌, ◌&&◌, ℕ, Bool, true, false, Option, None, Some, IfSome, Result, Ok, Err, if◌then◌else◌}
 use Rattle.item_actions.specs.Files.{Folder}
 use Rattle.item_actions.specs.Value.{IsHonest, value_on}
 use Rattle.item_actions.specs.declared.keep_alive.KeepAlive.{KeepAlive}
@@ -9,11 +9,10 @@ use Rattle.item_actions.specs.declared.outcomes.Outcome.TheVariants.{Fault, Skip
 use Rattle.daemon_protocol.specs.declared.frames.Frame.TheVariants as frames
 use Rattle.daemon_protocol.specs.declared.frames.Reply.{Reply}
 use Rattle.daemon_protocol.specs.declared.frames.Request.{Request}
-use Rattle.daemon_protocol.specs.StreamStart.{look}
 use Rattle.daemon_protocol.specs.declared.starts.StreamStart.{StreamStart}
 use Rattle.daemon_protocol.specs.declared.starts.StreamStart.TheVariants.{Whole}
 use Rattle.file_access.specs.declared.files.DeskFail.{DeskFail}
-use Rattle.file_access.specs.declared.files.DeskFail.TheVariants.{Failed, NoMemory}
+use Rattle.file_access.specs.declared.files.DeskFail.TheVariants.{Failed}
 
 -- what a daemon may tell of a request that it worked out
 abbrev pub is_told : Outcome → Bool
@@ -32,11 +31,6 @@ is_same_mode _ _ = false
 abbrev pub reply_to : ℕ → Option KeepAlive → StreamStart → Result Reply DeskFail
 reply_to unit keep (Whole (frames.Reply r) n) = if r.unit == unit && is_same_mode r.keep keep && is_told r.outcome then Ok r else Err Failed
 reply_to unit keep _ = Err Failed
-
--- what the bytes are for the request of this unit and mode: the reply that they begin with, or none, if there was memory to look
-abbrev pub IsReplyIn : ℕ → Option KeepAlive → List ℕ → Result Reply DeskFail → Type 0
-IsReplyIn unit keep bytes (Err NoMemory) = Unit {0}
-IsReplyIn unit keep bytes result = result ≡ reply_to unit keep (look bytes)
 
 -- A reply is for the request's unit, of its version and mode, and tells no fault. Where the files are known it tells the request's value, or that there
 -- was no memory.

@@ -1,4 +1,4 @@
-//! Daemons as the build sees them: started, asked and stopped, in memory or as child processes.
+//! Daemons as the build sees them: started, asked and stopped, as child processes.
 #![tactic(auto)]
 
 mod answering;
@@ -6,23 +6,17 @@ mod commands;
 mod desks;
 mod folder_desk;
 mod folder_link;
-mod lies;
-mod memory_desk;
-mod memory_link;
 mod pipe_link;
 mod replies;
 mod sent;
 mod served_stream;
-mod serving;
 mod taking;
 
 pub use desks::Desk;
 pub use folder_desk::FolderDesk;
 pub use folder_link::FolderLink;
-pub use lies::Lie;
-pub use memory_desk::MemoryDesk;
-pub use memory_link::MemoryLink;
 pub use pipe_link::PipeLink;
+pub use replies::reply_to;
 pub use sent::SentRequest;
 pub use served_stream::{MAX_STREAM_BYTES, Served, serve};
 pub use taking::take_frame;

@@ -2,21 +2,15 @@ ghost use Rattle.std.specs.Prelude.{◌≡◌, ◌≢◌, ℕ, IfOk, IsTrue};
 ghost use Rattle.item_actions.specs.declared.outcomes.Outcome.TheVariants as outcomes;
 ghost use Rattle.daemon_protocol.specs.declared.frames.Frame.TheVariants as frames;
 ghost use Rattle.daemon_protocol.specs.declared.starts.StreamStart.TheVariants.{Whole};
-ghost use Rattle.daemon_protocol.specs.StreamStart.{look};
-ghost use Rattle.daemon_desk.specs.Replies.{IsReplyIn, is_same_mode, reply_to};
+ghost use Rattle.daemon_desk.specs.Replies.{is_same_mode, reply_to};
 
-use daemon_protocol::{Frame, Reply, StreamStart, look};
+use daemon_protocol::{Frame, Reply, StreamStart};
 use file_access::DeskFail;
 use item_actions::{KeepAlive, Outcome};
-use std::alloc::Global;
 
 /// The reply that stands at the start of an answer. Failed comes where none does, where it is for another unit, of another
 /// version or in another mode, and where it tells a fault. Nothing is counted here.
-pub(crate) fn reply_to(
-    unit: u32,
-    keep: Option<KeepAlive>,
-    start: &StreamStart,
-) -> Result<Reply, DeskFail>
+pub fn reply_to(unit: u32, keep: Option<KeepAlive>, start: &StreamStart) -> Result<Reply, DeskFail>
     ensures exact { result ≡ reply_to unit keep start.now }
     ensures stands { IfOk result (λ r. (n : ℕ) × (start.now ≡ Whole (frames.Reply r) n)) }
     ensures unit { IfOk result (λ r. r.unit ≡ unit) }
@@ -44,22 +38,4 @@ fn is_same_mode(a: Option<KeepAlive>, b: Option<KeepAlive>) -> bool
         (Some(KeepAlive::Daemon), Some(KeepAlive::Daemon)) => true,
         _ => false,
     }
-}
-
-/// The reply for this unit, in this mode, that stands at the start of the bytes.
-pub(crate) fn reply_in(
-    alloc: Global,
-    unit: u32,
-    keep: Option<KeepAlive>,
-    bytes: &[u8],
-) -> Result<Reply, DeskFail>
-    ensures exact { IsReplyIn unit keep bytes.now result }
-    ensures stands { IfOk result (λ r. (n : ℕ) × (look bytes.now ≡ Whole (frames.Reply r) n)) }
-    ensures unit { IfOk result (λ r. r.unit ≡ unit) }
-    ensures keep { IfOk result (λ r. r.keep ≡ keep) }
-    ensures ran { IfOk result (λ r. r.outcome ≢ outcomes.Skipped) }
-    ensures worked { IfOk result (λ r. r.outcome ≢ outcomes.Fault) }
-{
-    let start = look(alloc, bytes)?;
-    reply_to(unit, keep, &start)
 }

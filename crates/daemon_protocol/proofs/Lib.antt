@@ -1,11 +1,7 @@
 pub mod lemmas
-mod Fronts
+pub mod Starting
 mod Names
-mod OneReading
 mod Parts
-mod Pushing
-mod Readings
 mod Sizes
 mod Spelled
-mod Starting
 mod Unspelled

@@ -1,4 +1,3 @@
 pub mod Bodies
-pub mod DecoderView
 pub mod Spelling
 pub mod StreamStart

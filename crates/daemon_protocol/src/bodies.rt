@@ -24,9 +24,9 @@ pub(crate) fn frame_of(alloc: Global, tag: u8, body: &[u8]) -> Result<Option<Fra
     }
 }
 
-/// The request without a mode whose body these bytes are.
+/// The request without a mode whose body these bytes are; None where they are no such body. The error is want of memory alone.
 #[inline(always)]
-pub(crate) fn request_of(alloc: Global, body: &[u8]) -> Result<Option<Frame>, AllocError>
+pub fn request_of(alloc: Global, body: &[u8]) -> Result<Option<Frame>, AllocError>
     ensures { IfOk result (λ f. f ≡ request_of body.now) }
 {
     if body.len() < 4 {
@@ -35,9 +35,9 @@ pub(crate) fn request_of(alloc: Global, body: &[u8]) -> Result<Option<Frame>, Al
     request_from(alloc, number_of(&body[..4]), None, &body[4..])
 }
 
-/// The request in a mode whose body these bytes are.
+/// The request in a mode whose body these bytes are; None where they are no such body. The error is want of memory alone.
 #[inline(always)]
-pub(crate) fn request_in_mode_of(alloc: Global, body: &[u8]) -> Result<Option<Frame>, AllocError>
+pub fn request_in_mode_of(alloc: Global, body: &[u8]) -> Result<Option<Frame>, AllocError>
     ensures { IfOk result (λ f. f ≡ request_in_mode_of body.now) }
 {
     if body.len() < 5 {
@@ -160,9 +160,9 @@ fn count_at(bytes: &[u8]) -> Option<(ItemAction, usize)>
     }
 }
 
-/// The reply without a mode whose body these bytes are.
+/// The reply without a mode whose body these bytes are; None where they are no such body.
 #[inline(always)]
-pub(crate) fn reply_of(body: &[u8]) -> Option<Frame>
+pub fn reply_of(body: &[u8]) -> Option<Frame>
     ensures { result ≡ reply_of body.now }
 {
     if body.len() < 4 {
@@ -171,9 +171,9 @@ pub(crate) fn reply_of(body: &[u8]) -> Option<Frame>
     reply_from(number_of(&body[..4]), None, &body[4..])
 }
 
-/// The reply in a mode whose body these bytes are.
+/// The reply in a mode whose body these bytes are; None where they are no such body.
 #[inline(always)]
-pub(crate) fn reply_in_mode_of(body: &[u8]) -> Option<Frame>
+pub fn reply_in_mode_of(body: &[u8]) -> Option<Frame>
     ensures { result ≡ reply_in_mode_of body.now }
 {
     if body.len() < 5 {
@@ -250,8 +250,8 @@ fn cause_of(cause: u8) -> Option<Outcome>
     }
 }
 
-/// Stop, where these bytes are its body.
-pub(crate) fn stop_of(body: &[u8]) -> Option<Frame>
+/// Stop, where these bytes are its body, which is empty; None else.
+pub fn stop_of(body: &[u8]) -> Option<Frame>
     ensures { result ≡ stop_of body.now }
 {
     if body.is_empty() {

@@ -6,7 +6,6 @@ use std::alloc::{AllocError, Global};
 use thiserror::Error;
 
 /// A unit of work that a daemon is asked to do.
-#[derive(Drop)]
 pub struct Request {
     pub unit: u32,
     pub action: ItemAction,
@@ -14,6 +13,18 @@ pub struct Request {
     pub file: Text,
     /// The keep-alive mode that is asked for. Without one the frame is of version 1, and with one of version 2.
     pub keep: Option<KeepAlive>,
+}
+
+// By hand, so that crates that let one go call this, in place of proving what it does anew.
+impl Drop for Request {
+    fn drop(self) {
+        let Request {
+            unit: _,
+            action: _,
+            file: _,
+            keep: _,
+        } = self;
+    }
 }
 
 impl Request {

@@ -2,7 +2,6 @@ ghost use Rattle.std.specs.Prelude.{◌≡◌, ◌<◌, ◌≤◌, ◌++◌, ℕ
 ghost use Rattle.daemon_protocol.specs.declared.frames.Frame.{Frame};
 ghost use Rattle.daemon_protocol.specs.declared.starts.StreamStart.TheVariants.{Whole};
 ghost use Rattle.daemon_protocol.specs.Spelling.{spelling, IsValid, FrameFits};
-ghost use Rattle.daemon_protocol.specs.DecoderView.{DecoderView, Reads};
 ghost use Rattle.daemon_protocol.specs.StreamStart.{look};
 
 /// The bytes of a valid frame are read as that frame, whatever follows. So each frame has bytes of its own, and
@@ -15,9 +14,4 @@ pub fn spelled_frames_are_read()
 pub fn read_frames_are_spelled()
     ensures { (bytes : List ℕ) (f : Frame) (n : ℕ) → ((i : ℕ) → slice_index bytes i < 256) → look bytes ≡ Whole f n
         → (n ≤ length bytes) × (take n bytes ≡ spelling f) × IsValid f }
-{}
-
-/// A stream has one reading: its frames, and what follows them.
-pub fn streams_have_one_reading()
-    ensures { (stream : List ℕ) (frames others : List Frame) (r q : DecoderView) → Reads stream frames r → Reads stream others q → (frames ≡ others) × (r ≡ q) }
 {}

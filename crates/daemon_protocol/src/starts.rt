@@ -36,7 +36,7 @@ pub enum StreamStart {
 }
 
 /// What the head of a frame says, and the body behind it where it is whole.
-pub(crate) enum Head<'a> {
+pub enum Head<'a> {
     /// Too few bytes to tell.
     Unfinished,
     /// The tag, and the body.
@@ -61,7 +61,7 @@ pub fn look(alloc: Global, bytes: &[u8]) -> Result<StreamStart, AllocError>
 
 /// The head at the start of the bytes.
 #[inline(always)]
-pub(crate) fn head_of(bytes: &[u8]) -> Head<'_>
+pub fn head_of(bytes: &[u8]) -> Head<'_>
     ensures start { start_of result ≡ look bytes.now }
     ensures fits { FitsBehind HEAD_BYTES result (length bytes.now) }
 {

@@ -2,14 +2,19 @@
 use item_actions::{KeepAlive, Text};
 
 /// A system property or an environment variable.
-#[derive(Drop)]
 pub struct Pair {
     pub name: Text,
     pub value: Text,
 }
 
+// By hand, so that crates that let one go call this, in place of proving what it does anew.
+impl Drop for Pair {
+    fn drop(self) {
+        let Pair { name: _, value: _ } = self;
+    }
+}
+
 /// What a daemon is started with, not yet tested.
-#[derive(Drop)]
 pub struct RequirementFields {
     /// The program that is started.
     pub executable: Text,
@@ -29,4 +34,21 @@ pub struct RequirementFields {
     pub encoding: Text,
     /// How long the daemon is kept. It is told in each request.
     pub keep: KeepAlive,
+}
+
+// By hand, so that crates that let one go call this, in place of proving what it does anew.
+impl Drop for RequirementFields {
+    fn drop(self) {
+        let RequirementFields {
+            executable: _,
+            heap_mb: _,
+            args: _,
+            properties: _,
+            variables: _,
+            debug: _,
+            assertions: _,
+            encoding: _,
+            keep: _,
+        } = self;
+    }
 }

@@ -40,9 +40,15 @@ pub enum RequirementRefusal {
 
 /// What a daemon is started with, or what an item asks of it: a heap of 1 to `MAX_HEAP_MB`, and
 /// properties and variables of distinct names.
-#[derive(Drop)]
 pub struct Requirements {
     fields: HeldFields,
+}
+
+// By hand, so that crates that let one go call this, in place of proving what it does anew.
+impl Drop for Requirements {
+    fn drop(self) {
+        let Requirements { fields: _ } = self;
+    }
 }
 
 impl Model for Requirements {
@@ -122,7 +128,8 @@ impl Requirements {
     pub fn share(self, alloc: Global) -> Result<Requirements, AllocError>
         ensures { IfOk result (λ shared. shared ≡ self) }
     {
-        let fields = self.fields.share(alloc)?;
+        let Requirements { fields } = self;
+        let fields = fields.share(alloc)?;
         Ok(Requirements { fields })
     }
 }

@@ -8,12 +8,13 @@ use crate::claimed_items::{claim, close as close_item, last_pass, queue_items, r
 use crate::lines::{add_events, add_outcome, check};
 use crate::memory_desks::desk;
 use coordination::{Coordination, Opened, Pass};
-use daemon_desk::{Desk, MemoryDesk};
+use daemon_desk::Desk;
 use daemon_manager::{CountedPool, Event, Pool, ReservationLedger, Tallies, Tally};
 use daemon_requirements::{Isolation, Work};
 use item_actions::{ItemAction, Outcome, Text, is_file_name};
 use item_work::{PoolLock, Ran, SharedPool};
 use lock_transforms::Closed;
+use memory_desk::MemoryDesk;
 use std::alloc::{AllocError, Global};
 use std::marker::Brand;
 use std::process::Abort;

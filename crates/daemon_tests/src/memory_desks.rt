@@ -1,7 +1,7 @@
 //! Desks in memory with one file.
-use daemon_desk::{Lie, MemoryDesk};
-use file_access::{FileEntry, FileMap};
 use item_actions::Text;
+use memory_desk::{Lie, MemoryDesk};
+use memory_files::{FileEntry, FileMap};
 use std::alloc::{AllocError, Global};
 
 // The call that receives the first reply, where one daemon is started.

@@ -1,11 +1,11 @@
-//! Tests of `daemon_protocol`.
+//! Tests of `daemon_protocol` and `frame_decoder`.
 ghost use Rattle.std.specs.Prelude.{IsTrue};
 ghost use Rattle.daemon_protocol.specs.Spelling.{IsValid};
 
 use daemon_protocol::{
-    Decoder, Frame, FrameRefusal, encode, read_frames_are_spelled, spelled_frames_are_read,
-    streams_have_one_reading,
+    Frame, FrameRefusal, encode, read_frames_are_spelled, spelled_frames_are_read,
 };
+use frame_decoder::{Decoder, streams_have_one_reading};
 use item_actions::{Outcome, is_file_name};
 use std::alloc::{AllocError, Global};
 

@@ -1,9 +1,7 @@
 pub mod Ahead
 pub mod Calls
 pub mod FolderFilesView
-pub mod Folders
 pub mod Gathers
-pub mod Memory
 pub mod Opening
 pub mod PageView
 pub mod ReadView

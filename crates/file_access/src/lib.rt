@@ -2,16 +2,11 @@
 #![tactic(auto)]
 
 mod ahead_source;
-mod calls;
 mod file_actions;
 mod file_bytes;
-mod file_map;
 mod files;
 mod folder_files;
 mod gates;
-mod memory_files;
-mod memory_sink;
-mod memory_source;
 mod openers;
 mod pages;
 mod retries;
@@ -22,16 +17,11 @@ mod std_source;
 mod work;
 
 pub use ahead_source::AheadSource;
-pub use calls::Calls;
 pub use file_actions::act_on_file;
 pub use file_bytes::FileBytes;
-pub use file_map::{FileEntry, FileMap};
 pub use files::{DeskFail, Files, Read};
 pub use folder_files::{FolderFiles, read_file};
-pub use gates::{Gate, MeetingGate, OpenGate};
-pub use memory_files::MemoryFiles;
-pub use memory_sink::MemorySink;
-pub use memory_source::MemorySource;
+pub use gates::{Gate, OpenGate};
 pub use openers::FileOpener;
 pub use pages::Page;
 pub use sinks::{Failed, Sink, put_all};

@@ -1,9 +1,9 @@
 //! Sinks, sources and files in memory, and pages.
 use file_access::{
-    AheadSource, DeskFail, FileEntry, FileMap, Files, MemoryFiles, MemorySink, MemorySource, Page,
-    Read, Source, StdSink, StdSource, put_all, work_out,
+    AheadSource, DeskFail, Files, Page, Read, Source, StdSink, StdSource, put_all, work_out,
 };
 use item_actions::{ItemAction, Outcome, Text};
+use memory_files::{FileEntry, FileMap, MemoryFiles, MemorySink, MemorySource};
 use std::alloc::{AllocError, Global};
 use std::io;
 use std::io::{ErrorKind, Write};

@@ -1,5 +1,6 @@
 //! Gates, shared by two threads.
-use file_access::{Gate, MeetingGate, OpenGate};
+use file_access::{Gate, OpenGate};
+use memory_files::MeetingGate;
 use std::thread::{Threads, join};
 
 // Has two workers enter, each in a thread of its own.

@@ -2,8 +2,8 @@
 use crate::calls::{Answer, Run, answer_to};
 use anyhow::Result;
 use case_files::{Case, InPieces, sink_of};
-use file_access::{FileEntry, MemorySink};
 use item_actions::Text;
+use memory_files::{FileEntry, MemorySink};
 use sha2::{Digest, Sha256};
 use std::alloc::Global;
 use std::sync::Wait;

@@ -2,11 +2,12 @@
 use crate::watches::watches_held;
 use anyhow::Result;
 use case_files::{Case, InPieces, desks_of, source_of};
-use daemon_desk::MemoryDesk;
-use file_access::{MeetingGate, MemorySink, MemorySource, Source};
+use file_access::Source;
 use item_actions::Outcome;
 use leases_cli::{DESKS, Ended, Status, leases};
 use lock_journal::Book;
+use memory_desk::MemoryDesk;
+use memory_files::{MeetingGate, MemorySink, MemorySource};
 use std::alloc::Global;
 use std::sync::Wait;
 use std::thread::Threads;

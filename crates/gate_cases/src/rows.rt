@@ -3,7 +3,7 @@ use crate::answers::{Counted, text_of};
 use crate::calls::{Answer, answer_to};
 use anyhow::Result;
 use case_files::{Case, Each, InPieces, sink_of};
-use file_access::MemorySink;
+use memory_files::MemorySink;
 use std::alloc::Global;
 use std::cmp::min;
 use std::io;

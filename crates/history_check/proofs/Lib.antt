@@ -6,13 +6,11 @@ pub mod Passing
 pub mod Steps
 pub mod OneAnswer
 pub mod Given
-pub mod Agreeing
 pub mod PlainGraphs
 pub mod Decided
-pub mod OneByOne
 pub mod EndLines
 pub mod Rooms
 pub mod Admissions
 mod Closings
 mod Drives
-mod Answering
+pub mod Answering

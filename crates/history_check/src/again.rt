@@ -1,16 +1,13 @@
 //! What a recorded run comes to when it is driven again.
 ghost use Rattle.std.specs.Prelude.{◌≡◌, length};
-ghost use Rattle.history_text.specs.Fitting.{HeadFits};
-ghost use Rattle.history_text.specs.HistoryView.{history_view};
 ghost use Rattle.plan_reader.specs.Units.{plan_units};
-ghost use Rattle.history_check.specs.Driving.{FitsPlan, HasDriven, HasGoneOn, IsAgainCounted, IsDrivenAgain, ReadsFor, again_at};
+ghost use Rattle.history_check.specs.Driving.{FitsPlan, HasDriven, HasGoneOn, IsAgainCounted, ReadsFor, again_at};
 ghost use Rattle.history_check.specs.declared.admitted.Admitted.TheVariants as admissions;
 
 use crate::driving::drive_book;
 use crate::stops::Stop;
-use crate::{Admitted, CheckFail, admit, admit_input};
+use crate::{Admitted, CheckFail, admit_input};
 use file_access::{Files, Source};
-use history_text::History;
 use item_actions::Outcome;
 use lock_journal::Book;
 use plan_reader::Plan;
@@ -32,32 +29,15 @@ pub enum Again {
     ReadFault(u32),
 }
 
-/// Drives a recorded run of a plan again: checks its history, and then works each recorded outcome out anew from the
-/// files, entry by entry, on this thread.
+/// Drives the run of a plan again whose history stands in an input: checks its history, and then works each recorded outcome
+/// out anew from the files, entry by entry, on this thread.
 ///
 /// An entry that closes a unit is true for the files where its outcome is what the unit gives on them, or says that
 /// the outside failed or that there was no memory. Any other entry is true. The file of each closing entry is read
 /// once, also where an item ran in a process, up to the first entry that isn't true or whose file isn't read. A file
 /// that isn't there or that is too long is a value, and no failure.
 ///
-/// It is for histories of 1 to 32 workers and as many leases, as each one is that was read. An error is want of memory.
-pub fn drive_again<F: Files>(
-    alloc: Global,
-    plan: &Plan,
-    history: &History,
-    files: &mut F,
-) -> Result<Again, AllocError>
-    requires { HeadFits history.now.workers history.now.max history.now.locks }
-    ensures files { F.files files.new ≡ F.files files.old }
-    ensures counted { IsAgainCounted (F.faults files.old) (F.faults files.new) result }
-    ensures again { IsDrivenAgain plan.now (history_view history.now) (F.files files.old) (ReadsFor F.keeps files.old files.new) result }
-{
-    let admitted = admit(alloc, plan, history)?;
-    drive_admitted(alloc, plan, admitted, files)
-}
-
-/// Drives the run again whose history stands in an input, as `drive_again` does a history that was read. The input is
-/// taken, and an answer given of its text, as `crate::check_input` does. Files are read only where the whole
+/// The input is taken, and an answer given of its text, as `crate::check_input` does. Files are read only where the whole
 /// history was taken and is lawful.
 pub fn drive_input<F: Files, I: Source>(
     alloc: Global,
@@ -76,8 +56,8 @@ pub fn drive_input<F: Files, I: Source>(
     }
 }
 
-// Drives the book of lawful entries again.
-fn drive_admitted<F: Files>(
+/// Drives a run again whose entries were admitted, as `drive_input` does. An error is want of memory.
+pub fn drive_admitted<F: Files>(
     alloc: Global,
     plan: &Plan,
     admitted: Admitted,

@@ -20,7 +20,7 @@ use std::marker::Model;
 
 /// The check of a history's entries, one by one. Those up to the first that isn't allowed are admitted, and all are counted.
 #[derive(Drop)]
-pub(crate) struct EntryCheck<A: Admitter> {
+pub struct EntryCheck<A: Admitter> {
     admitter: A,
     count: u64,
     // Whether the history names another number of locks than the graph has.
@@ -40,7 +40,7 @@ impl<A: Admitter> Model for EntryCheck<A> {
 
 impl<A: Admitter> EntryCheck<A> {
     /// The check of a history without entries, for so many workers and leases, that names a number of locks or none.
-    pub(crate) fn opening(
+    pub fn opening(
         alloc: Global,
         plan: &Plan,
         workers: u32,
@@ -69,7 +69,7 @@ impl<A: Admitter> EntryCheck<A> {
     }
 
     /// Counts one more entry, and admits it while all before it were allowed and it is too.
-    pub(crate) fn admit(
+    pub fn admit(
         &mut self,
         worker: WorkerId,
         kind: &Kind,
@@ -87,7 +87,7 @@ impl<A: Admitter> EntryCheck<A> {
     }
 
     /// What the check answers of the entries so far.
-    pub(crate) fn answer(&self) -> Checked
+    pub fn answer(&self) -> Checked
         ensures { (p : PlanView) (h : HistoryView) → IsCheckOf p h self.now → IsVerdict self.now.graph h.locks h.entries result }
     {
         let admitted = self.admitter.admitted();
@@ -103,7 +103,7 @@ impl<A: Admitter> EntryCheck<A> {
 
 impl EntryCheck<WholeBook> {
     /// What the entries come to by the answer: their book where all are lawful.
-    pub(crate) fn finish(self, answer: Checked) -> Admitted
+    pub fn finish(self, answer: Checked) -> Admitted
         ensures { IsFinish self answer result }
     {
         match answer {

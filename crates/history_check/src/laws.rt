@@ -1,6 +1,5 @@
-ghost use Rattle.std.specs.Prelude.{ℕ, ◌≡◌, ◌<◌, ◌≤◌, ◌↔◌, Bool, List, ◌++◌, length, take, Option, Some, Ok};
+ghost use Rattle.std.specs.Prelude.{ℕ, ◌≡◌, ◌<◌, ◌≤◌, ◌↔◌, Bool, List, ◌++◌, length, take, Option, Some};
 ghost use Rattle.std.specs.Io.KnownBytes.{Consumes};
-ghost use Rattle.file_access.specs.SourceView.{SourceView};
 ghost use Rattle.lock_journal.specs.PlainPlans.{NameLocksBelow, WasLawful};
 ghost use Rattle.lock_transforms.specs.Allowed.{Lawful};
 ghost use Rattle.lock_transforms.specs.Entry.{Entry};
@@ -9,14 +8,12 @@ ghost use Rattle.plan_reader.specs.PlanView.{PlanView};
 ghost use Rattle.history_text.specs.HistoryView.{HistoryView};
 ghost use Rattle.history_text.specs.Lines.{IsLine, IsWrongAfter};
 ghost use Rattle.history_text.specs.Grammar.{HistoryFits, lines_of};
-ghost use Rattle.history_check.specs.CheckView.{CheckView, IsCheckOf};
 ghost use Rattle.history_check.specs.declared.checks.Checked.{Checked};
 ghost use Rattle.history_check.specs.declared.inputs.TheConstants.{MAX_INPUT_BYTES};
 ghost use Rattle.history_check.specs.declared.lines.TheConstants.{MAX_PIECE};
-ghost use Rattle.history_check.specs.Checking.{HasChecked, IsAnswer, IsJustDecided, all_given};
-ghost use Rattle.history_check.specs.Naming.{ArePassedOver, Names};
+ghost use Rattle.history_check.specs.Checking.{IsAnswer, IsJustDecided, all_given};
+ghost use Rattle.history_check.specs.Naming.{ArePassedOver};
 ghost use Rattle.history_check.specs.PlainPlans.{IsPlain, graph_before};
-ghost use Rattle.history_check.specs.Verdict.{IsAnswerTo, IsVerdict};
 
 use lock_journal::plain_histories_are_lawful_as_without_all_projects;
 
@@ -30,16 +27,6 @@ pub fn an_input_has_one_answer()
 pub fn the_first_bytes_may_be_taken()
     ensures { (input came : List ℕ) (left : Option (List ℕ)) → Consumes (Some input) left came → length came ≤ MAX_INPUT_BYTES
         → all_given came left ≡ take MAX_INPUT_BYTES input }
-{}
-
-/// What `check` answers of a whole history is what a `HistoryCheck` answers of its lines, and what `check_input` answers
-/// of an input that begins with its text, whatever follows.
-pub fn whole_and_line_by_line_agree()
-    ensures lines { (p : PlanView) (h : HistoryView) (c : CheckView) (whole by_line : Checked) → IsAnswerTo p h whole → IsCheckOf p h c
-        → IsVerdict c.graph h.locks h.entries by_line → whole ≡ by_line }
-    ensures input { (p : PlanView) (h : HistoryView) (bytes more : List ℕ) (old new : SourceView) (whole by_line : Checked)
-        → IsAnswerTo p h whole → Names bytes h → length bytes ≤ MAX_INPUT_BYTES → old.left ≡ Some (bytes ++ more)
-        → HasChecked p old new (Ok by_line) → whole ≡ by_line }
 {}
 
 /// Where a line of a history is wrong, fewer than `MAX_PIECE` bytes are taken behind it.

@@ -1,4 +1,4 @@
-//! Checks a history against a plan: whole, or a printed one line by line as its lines come.
+//! Checks a printed history against a plan, line by line as its lines come, and drives a recorded run again.
 #![tactic(auto)]
 
 mod admitted;
@@ -14,20 +14,19 @@ mod lines;
 mod reached;
 mod stops;
 mod values;
-mod whole;
 mod whole_books;
 
 pub use admitted::Admitted;
 pub use admitters::Admitter;
-pub use again::{Again, drive_again, drive_input};
+pub use again::{Again, drive_admitted, drive_input};
 pub use checks::{Checked, HistoryCheck};
+pub use entry_checks::EntryCheck;
 pub use fails::CheckFail;
 pub use inputs::{MAX_INPUT_BYTES, admit_input, check_input};
 pub use laws::{
     an_input_has_one_answer, little_is_taken_behind_a_wrong_line,
-    plain_plans_are_checked_as_before, the_first_bytes_may_be_taken, whole_and_line_by_line_agree,
+    plain_plans_are_checked_as_before, the_first_bytes_may_be_taken,
 };
 pub use lines::MAX_PIECE;
 pub use reached::Reached;
-pub use whole::{admit, check};
 pub use whole_books::WholeBook;

@@ -1,12 +1,12 @@
 //! Whole histories that were read from their texts, and checked.
 use crate::history_reader_tests::text_of;
 use file_access::{AheadSource, Source};
-use history_check::{Checked, check, check_input};
-use history_text::read_history;
+use history_check::{Checked, check_input};
 use plan_reader::{Plan, read_plan};
 use std::alloc::{AllocError, Global};
 use std::io::BufReader;
 use std::test::Fail;
+use whole_histories::{check, read_history};
 
 /// A task with one item.
 static PLAN: &[u8] = b"[[project]]\nname = \"p\"\n\n\

@@ -1,9 +1,10 @@
 //! What the lines of a history are read as, and texts in which something follows the end.
-use history_text::{History, TextFail, read_history};
+use history_text::{History, TextFail};
 use item_actions::Outcome;
 use lock_transforms::{Closed, Kind};
 use resource_lock::{Change, LockId, Mark, MarkId, WorkerId};
 use std::alloc::{AllocError, Global};
+use whole_histories::read_history;
 
 /// A text of these parts.
 pub(crate) fn text_of(alloc: Global, parts: &[&[u8]]) -> Result<Vec<u8>, AllocError> {

@@ -2,7 +2,7 @@
 ghost use Rattle.std.specs.Prelude.{◌≡◌, IfOk, true};
 ghost use Rattle.plan_reader.specs.Graph.{graph_of};
 
-use file_access::{MemorySink, Page};
+use file_access::Page;
 use history_text::{write_history, write_results};
 use item_actions::Outcome;
 use lock_journal::{Book, every_run_comes_to_its_plan};
@@ -10,6 +10,7 @@ use lock_transforms::kinds::{
     Acquire, Block, Claim, Close, End, HandBack, Park, Resume, Shortage, Start, Submit, Unblock,
 };
 use lock_transforms::{Closed, Disposition, Transform};
+use memory_files::MemorySink;
 use plan_reader::{Plan, read_plan};
 use resource_lock::{LockId, WorkerId};
 use std::alloc::{AllocError, Global};

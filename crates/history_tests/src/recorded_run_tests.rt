@@ -1,11 +1,11 @@
 //! Whole histories that were read from their texts, and driven again.
-use file_access::{FileEntry, FileMap, MemoryFiles};
-use history_check::{Again, drive_again};
-use history_text::read_history;
+use history_check::Again;
 use item_actions::{Outcome, Text};
+use memory_files::{FileEntry, FileMap, MemoryFiles};
 use plan_reader::{Plan, read_plan};
 use std::alloc::{AllocError, Global};
 use std::test::Fail;
+use whole_histories::{drive_again, read_history};
 
 /// A task with one item.
 static PLAN: &[u8] = b"[[project]]\nname = \"p\"\n\n\

@@ -1,8 +1,8 @@
 //! The spans and the levels of a run, and of one that is cut off.
-use history_text::read_history;
 use resource_lock::{LockId, MarkId, WorkerId};
 use run_spans::{Level, Span, Subject, levels_of, spans_of};
 use std::test::Fail;
+use whole_histories::read_history;
 
 /// A task whose item another worker works on, while its lock is parked.
 static RUN: &[u8] = b"history 1\nworkers 2 max 1 parallel yes\n\

@@ -1,8 +1,10 @@
 //! The text of a history in parts.
 use crate::history_text_tests::{PLAN, ends, fetches, open, sink, steps_aside};
-use file_access::{MemorySink, Page};
-use history_text::{write_end, write_head, write_history, write_kept, write_segment};
+use file_access::Page;
+use history_parts::{write_kept, write_segment};
+use history_text::{write_end, write_head, write_history};
 use lock_journal::{Book, Segment};
+use memory_files::MemorySink;
 use plan_reader::{Plan, read_plan};
 use std::alloc::{AllocError, Global};
 use std::test::Fail;

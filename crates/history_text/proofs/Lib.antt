@@ -12,5 +12,3 @@ pub mod KindLaws
 pub mod EntryLaws
 pub mod SettingsLaws
 pub mod Further
-pub mod BookLaws
-pub mod Segments

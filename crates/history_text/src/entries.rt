@@ -1,4 +1,4 @@
-ghost use Rattle.std.specs.Prelude.{◌≡◌, ◌+◌, ◌++◌, codes, drop};
+ghost use Rattle.std.specs.Prelude.{◌≡◌, ◌++◌, codes};
 ghost use Rattle.file_access.specs.PageView.{Adds};
 ghost use Rattle.lock_journal.specs.Shown.{entry_shown};
 ghost use Rattle.history_text.specs.Text.{closed_text, kind_text, entry_text, numbered};
@@ -6,7 +6,7 @@ ghost use Rattle.history_text.specs.Text.{closed_text, kind_text, entry_text, nu
 use crate::changes::{write_effect, write_numbered};
 use crate::outcomes::write_outcome;
 use file_access::{Page, Sink};
-use lock_journal::{Book, Segment, Shown};
+use lock_journal::{Book, Shown};
 use lock_transforms::{Closed, Kind};
 
 // Writes the word, and the unit and the outcome that an entry closes.
@@ -58,28 +58,6 @@ pub(crate) fn write_entries<K: Sink>(book: &Book, page: &mut Page, sink: &mut K)
     ensures { Adds (K.seen sink.old) page.old (K.seen sink.new) page.new (numbered entry_text 1 book.now.history) }
 {
     for place in 0..book.len() {
-        write_entry(place + 1, &book.entry(place), page, sink);
-    }
-}
-
-/// Writes a line for each entry of a segment, numbered on from those before it.
-///
-/// The head and the lines of all segments of a history in order, those of the entries that its book still keeps, and the line behind them are the
-/// history's text (`segments_are_one_text`).
-pub fn write_segment<K: Sink>(segment: &Segment, page: &mut Page, sink: &mut K)
-    ensures { Adds (K.seen sink.old) page.old (K.seen sink.new) page.new (numbered entry_text (segment.now.before + 1) segment.now.entries) }
-{
-    let start = segment.before();
-    for place in start..segment.end() {
-        write_entry(place + 1, &segment.entry(place - start), page, sink);
-    }
-}
-
-/// Writes a line for each entry that a book keeps, numbered on from those that it gave away.
-pub fn write_kept<K: Sink>(book: &Book, page: &mut Page, sink: &mut K)
-    ensures { Adds (K.seen sink.old) page.old (K.seen sink.new) page.new (numbered entry_text (book.now.given + 1) (drop book.now.given book.now.history)) }
-{
-    for place in book.given()..book.len() {
         write_entry(place + 1, &book.entry(place), page, sink);
     }
 }

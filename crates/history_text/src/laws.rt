@@ -1,13 +1,8 @@
-ghost use Rattle.std.specs.Prelude.{ℕ, ◌≡◌, ◌<◌, ◌+◌, ◌++◌, All, Bool, List, Option, drop, length};
-ghost use Rattle.std.specs.List.{flat_map};
+ghost use Rattle.std.specs.Prelude.{ℕ, ◌≡◌, ◌<◌, length};
 ghost use Rattle.item_actions.specs.declared.outcomes.Outcome.{Outcome};
 ghost use Rattle.resource_lock.specs.declared.marks.Mark.{Mark};
 ghost use Rattle.plan_reader.specs.PlanView.{PlanView};
 ghost use Rattle.plan_reader.specs.Units.{plan_units};
-ghost use Rattle.lock_transforms.specs.Entry.{Entry};
-ghost use Rattle.lock_journal.specs.Giving.{AreInTurn, IsCutFrom, joined};
-ghost use Rattle.lock_journal.specs.SegmentView.{SegmentView};
-ghost use Rattle.history_text.specs.Text.{end_text, entry_text, head_text, history_text, numbered, segment_lines};
 ghost use Rattle.history_text.specs.Results.{results_text, summary_text};
 
 /// The results text and its summary are the same wherever the marks of the plan's tasks and the outcomes
@@ -21,15 +16,4 @@ pub fn results_go_by_number()
         → ((t : ℕ) → t < length p.tasks → marks t ≡ marks' t)
         → ((u : ℕ) → u < length (plan_units p) → outcomes u ≡ outcomes' u)
         → summary_text p marks outcomes ≡ summary_text p marks' outcomes' }
-{}
-
-/// The head, the lines of segments that begin where the one before ends, the lines of the entries behind them and the end are the text of the
-/// whole history.
-pub fn segments_are_one_text()
-    ensures lines { (h : List Entry) (ss : List SegmentView) → AreInTurn 0 ss → All (IsCutFrom h) ss
-        → flat_map segment_lines ss ++ numbered entry_text (length (joined ss) + 1) (drop (length (joined ss)) h) ≡ numbered entry_text 1 h }
-    ensures text { (workers max_leases : ℕ) (parallel : Bool) (locks : Option ℕ) (h : List Entry) (ss : List SegmentView) → AreInTurn 0 ss
-        → All (IsCutFrom h) ss → head_text workers max_leases parallel locks ++ flat_map segment_lines ss
-        ++ numbered entry_text (length (joined ss) + 1) (drop (length (joined ss)) h) ++ end_text (length h)
-        ≡ history_text workers max_leases parallel locks h }
 {}

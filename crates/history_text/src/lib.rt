@@ -3,7 +3,6 @@
 //! Each call adds a text to a page, which can take several texts one after another.
 #![tactic(auto)]
 
-mod books;
 mod change_words;
 mod changes;
 mod counts;
@@ -20,7 +19,6 @@ mod laws;
 mod lines;
 mod outcome_words;
 mod outcomes;
-mod read;
 mod read_histories;
 mod reading_laws;
 mod results;
@@ -28,20 +26,17 @@ mod summaries;
 mod tokens;
 mod units;
 
-pub use books::every_book_has_a_text;
 pub use changes::{write_effect, write_mark};
-pub use entries::{write_entry, write_kept, write_kind, write_segment};
+pub use entries::{write_entry, write_kind};
 pub use events::write_events;
 pub use fails::TextFail;
 pub use heads::{Version, read_version};
 pub use histories::{write_end, write_head, write_head_lines, write_history};
-pub use laws::{results_go_by_number, segments_are_one_text};
+pub use laws::results_go_by_number;
 pub use lines::{LineHead, LineValue, read_line, read_line_into};
 pub use outcomes::write_outcome;
-pub use read::read_history;
 pub use read_histories::{EntryHead, History, HistoryEntry, HistoryLine};
 pub use reading_laws::{
     a_line_more, each_value_has_one_text, texts_stop_at_one_place, written_histories_are_read_back,
 };
 pub use results::write_results;
-pub use tokens::next_line;

@@ -11,7 +11,6 @@ use resource_lock::{Change, WorkerId};
 use std::alloc::Global;
 
 /// A history that was read from its text.
-#[derive(Drop)]
 pub struct History {
     /// How many workers there are: 1 to 32 in what was read.
     pub workers: u32,
@@ -25,8 +24,20 @@ pub struct History {
     pub entries: Vec<HistoryEntry>,
 }
 
+// By hand, so that crates that let one go call this, in place of proving what it does anew.
+impl Drop for History {
+    fn drop(self) {
+        let History {
+            workers: _,
+            max: _,
+            parallel: _,
+            locks: _,
+            entries: _,
+        } = self;
+    }
+}
+
 /// An entry of a history.
-#[derive(Drop)]
 pub struct HistoryEntry {
     /// The worker that ran the transform.
     pub worker: WorkerId,
@@ -34,6 +45,17 @@ pub struct HistoryEntry {
     pub kind: Kind,
     /// The changes that were made, in order, or none where the transform failed.
     pub changes: Option<Vec<Change>>,
+}
+
+// By hand, so that crates that let one go call this, in place of proving what it does anew.
+impl Drop for HistoryEntry {
+    fn drop(self) {
+        let HistoryEntry {
+            worker: _,
+            kind: _,
+            changes: _,
+        } = self;
+    }
 }
 
 /// An entry of a history but for its changes, which stand elsewhere.

@@ -1,21 +1,8 @@
 ghost use Rattle.std.specs.Prelude.{◌≡◌, ◌+◌, ◌^◌, ◌≤◌, decimal, IfSome};
 ghost use Rattle.std.specs.Option.{option_map};
 ghost use Rattle.history_text.specs.Reading.{after, number_after, number_at};
-ghost use Rattle.history_text.specs.Lines.{BeginsWithLine};
 
 use itoa::Buffer;
-use memchr::memchr;
-
-/// The first line of a text with its line end, and the text behind it. Where no line ends, it is the
-/// whole text.
-pub fn next_line(text: &[u8]) -> (&[u8], &[u8])
-    ensures { BeginsWithLine text.now result.0.now result.1.now }
-{
-    match memchr(b'\n', text) {
-        Some(end) => text.split_at(end + 1),
-        None => (text, &[]),
-    }
-}
 
 /// The text after a word.
 pub(crate) fn text_after<'a>(text: &'a [u8], word: &[u8]) -> Option<&'a [u8]>

@@ -5,8 +5,9 @@ ghost use Rattle.history_text.specs.HistoryView.{history_view};
 ghost use Rattle.history_text.specs.Grammar.{HistoryFits, lines_of};
 ghost use Rattle.leases_picture.specs.Found.{IsBehindHead, EndsIn, IsFoundIn};
 
-use history_text::{History, HistoryLine, TextFail, Version, next_line, read_version};
+use history_text::{History, HistoryLine, TextFail, Version, read_version};
 use std::alloc::Global;
+use whole_histories::next_line;
 
 // Which version the first line that is the first of a history begins, and the text behind it.
 fn behind_head(text: &[u8]) -> Option<(Version, &[u8])>

@@ -7,12 +7,13 @@ use crate::run_tests::{
     Blanks, Came, MemoryBudget, Seat, close, is_what_came, new_lock, run_and_stop, seat_at,
 };
 use crate::scene_tests::is_second_right;
-use daemon_desk::{Lie, MemoryDesk, MemoryLink};
 use daemon_manager::Tally;
 use daemon_requirements::{Isolation, Work};
-use file_access::{FileEntry, FileMap, Files, Read};
+use file_access::{Files, Read};
 use item_actions::{MAX_FILE_BYTES, Text, is_file_name};
 use memory_budget::{BudgetLedger, SharedBudget};
+use memory_desk::{Lie, MemoryDesk, MemoryLink};
+use memory_files::{FileEntry, FileMap};
 use plan_reader::{Plan, UnitWork, read_plan, units_of};
 use std::alloc::Global;
 use std::marker::Brand;

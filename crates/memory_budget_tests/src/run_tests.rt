@@ -8,10 +8,9 @@ ghost use Rattle.resource_lock.specs.Opening.{opening_of};
 
 use crate::asked::requirements_of;
 use coordination::{Coordination, Opened, Pass, openings_are_at_rest};
-use daemon_desk::{Desk, MemoryDesk, MemoryLink};
+use daemon_desk::Desk;
 use daemon_manager::{Event, Tallies, Tally};
 use daemon_requirements::{Isolation, Linked, Work};
-use file_access::{FileEntry, FileMap};
 use item_actions::{ItemAction, Outcome, Text, is_file_name};
 use lease_service::current_lease;
 use lock_journal::Book;
@@ -20,6 +19,8 @@ use memory_budget::{
     BudgetLedger, BudgetLock, BudgetPool, Budgeted, BudgetedRun, CountedBudget, MAX_BUDGET_MB,
     SharedBudget, run_in_budget, stop_daemon,
 };
+use memory_desk::{MemoryDesk, MemoryLink};
+use memory_files::{FileEntry, FileMap};
 use resource_lock::{Graph, GraphTasks};
 use std::alloc::{AllocError, Global};
 use std::marker::Brand;

@@ -4,9 +4,9 @@ ghost use Rattle.std.specs.Prelude.{◌≡◌, ◌≤◌};
 use crate::run_tests::{
     Blanks, Came, MemoryBudget, Seat, close, desk, is_what_came, new_lock, seat_at,
 };
-use daemon_desk::MemoryLink;
 use daemon_manager::{Event, Tally};
 use memory_budget::{BudgetLedger, MAX_BUDGET_MB, SharedBudget, stop_idle};
+use memory_desk::MemoryLink;
 use std::alloc::{AllocError, Global};
 use std::marker::Brand;
 use std::process::Abort;

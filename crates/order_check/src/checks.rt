@@ -2,9 +2,10 @@
 ghost use Rattle.order_check.specs.Answer.{IsAnswerOf};
 
 use crate::read_entries::ReadEntries;
-use history_text::{TextFail, read_history};
+use history_text::TextFail;
 use std::alloc::Global;
 use task_ordering::{Kept, Ordering};
+use whole_histories::read_history;
 
 /// Reads a whole history text, and checks its entries as `Ordering::check` does, lawful or not. Stops comes exactly where the text is no
 /// history, with the number that `read_history` gives. NoMemory comes only where there was no memory for the entries or the check.

@@ -1,11 +1,12 @@
 //! An order of tasks, and histories that are read from their texts.
 use crate::task_ordering_tests::{PAIR, graph_of_two, tasks_of};
-use history_text::{TextFail, read_history};
+use history_text::TextFail;
 use order_check::{ReadEntries, check_text};
 use std::alloc::{AllocError, Global};
 use std::process::Abort;
 use std::test::Fail;
 use task_ordering::{Kept, Ordering, first_unlawful};
+use whole_histories::read_history;
 
 const HEAD: &[u8] = b"history 1\nworkers 1 max 1 parallel no\n";
 

@@ -3,7 +3,7 @@ ghost use Rattle.std.specs.Prelude.{◌≡◌, All, map};
 ghost use Rattle.coordination.specs.Sights.{workers_from};
 
 use crate::rows::{ACTIONS, ALL_PASS, Found, LIMITS, NONE_FAULTY, ONE_FAILS, Row, TASKS, closed};
-use async_tracker::{MoveInTask, NextWork, ParkedWork, TakeNextWork, TakeParkedWork, TaskMove};
+use async_tracker::{NextWork, ParkedWork, TakeNextWork, TakeParkedWork};
 use blocking_section::TakeUp;
 use coordination::{
     Ask, Came, Decide, Decided, Decision, Followed, Pass, Planned, RunThenDecide, Slot, Wakes,
@@ -12,6 +12,7 @@ use coordination::{
 use lock_transforms::kinds::{Close, Park};
 use lock_transforms::{Closed, Transform};
 use resource_lock::{MarkId, WorkerId};
+use single_steps::{MoveInTask, TaskMove};
 use state_tests::books::book_of;
 use std::alloc::{AllocError, Global};
 use std::process::Abort;

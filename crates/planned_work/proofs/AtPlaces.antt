@@ -10,9 +10,9 @@ use Rattle.lock_journal.proofs.lemmas.Fitting.{apart_of}
 use Rattle.lock_journal.proofs.lemmas.Owned.{stands_in_owned}
 use Rattle.coordination.specs.Names.{Finds, HoldsNothing, blocked_shown, claimed_shown, lease_shown, locks_shown, parked_shown}
 use Rattle.coordination.specs.declared.rule.Sight.{Sight}
-use Rattle.coordination.proofs.lemmas.Entries.{belongs_sound}
+use Rattle.worker_notes.proofs.lemmas.Entries.{belongs_sound}
 use Rattle.async_tracker.specs.Shows.{HasParkedLast, IsFree, IsIdleOrParked, IsItemHere, IsParkedBy, OwnsToPark, WorksOn}
-use Rattle.async_tracker.proofs.TaskActions.{running_within}
+use Rattle.single_steps.proofs.TaskActions.{running_within}
 use Rattle.planned_work.specs.InPlace.{HasLock, HasReleasedTask, IsInPlace, parked_under}
 use Rattle.planned_work.specs.Places.{action_in, has_any, place_by, place_of, task_in, unit_in}
 use Rattle.planned_work.specs.declared.places.Place.{Place}

@@ -13,7 +13,7 @@ use Rattle.resource_lock.proofs.lemmas.Undo.{same_mark_is}
 use Rattle.lock_journal.proofs.Marks.{AllMoves-weaker, GoesTo, Names, StaysOrMoves, moves_to, stays_or_moves}
 use Rattle.lock_journal.proofs.Moves.{MayMove, list_moves}
 use Rattle.lock_journal.proofs.lemmas.Others.{running_of}
-use Rattle.async_tracker.proofs.TaskActions.{running_within}
+use Rattle.single_steps.proofs.TaskActions.{running_within}
 
 -- the mark that an entry of the kind makes run
 abbrev pub Begins : Kind → MarkId → Type 0

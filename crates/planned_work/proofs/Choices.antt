@@ -1,24 +1,26 @@
 -- What a worker does next, by what its decision came to.
-use Rattle.std.proofs.Common.{◌≡◌, ◌<◌, ℕ, Bool, true, false, inl, inr, length, refl}
-use Rattle.ready_work.specs.Choices.{has_queued}
-use Rattle.lock_journal.specs.Names.{BookView, WorkerId}
+use Rattle.std.proofs.Common.{◌≡◌, ◌∙◌, ◌<◌, ℕ, Bool, true, false, None, inl, inr, length, refl, sym}
+use Rattle.std.proofs.lemmas.Bool.{and_parts, true≢false}
+use Rattle.ready_work.specs.Choices.{IsQueued, has_queued}
+use Rattle.ready_work.specs.Lowest.{IsNone}
+use Rattle.ready_work.proofs.QueuedUnits.{queued_by_lowest}
+use Rattle.lock_journal.specs.Names.{BelongsTo, BookView, GraphView, StateView, WorkerId, can_lease}
 use Rattle.coordination.specs.Names.{HasDecided, decided_of}
 use Rattle.coordination.specs.declared.decisions.Decided.{Decided}
 use Rattle.coordination.specs.declared.decisions.Decided.TheVariants as decided
 use Rattle.coordination.specs.declared.rule.Sight.{Sight}
-use Rattle.coordination.proofs.lemmas.Entries.{belongs_sound}
-use Rattle.worker_choices.specs.NextSteps.{HasToWait}
-use Rattle.async_tracker.specs.NextWork.{IsIdleIf, IsNextParkedWorkIf, IsNextWorkIf, step_of_next, step_of_parked}
-use Rattle.async_tracker.specs.TaskMoves.{IsNextInTask, step_of_move}
+use Rattle.worker_notes.proofs.lemmas.Entries.{belongs_sound}
+use Rattle.worker_choices.specs.NextSteps.{HasToWait, can_claim}
+use Rattle.async_tracker.specs.NextWork.{IsIdleIf, IsNextParkedWork, IsNextParkedWorkIf, IsNextWork, IsNextWorkIf, step_of_next, step_of_parked}
 use Rattle.async_tracker.specs.WorkSteps.{FailsAt, RetriesAt, kind_of_work}
 use Rattle.async_tracker.specs.declared.next_work.NextWork.{NextWork}
 use Rattle.async_tracker.specs.declared.next_work.NextWork.TheVariants as next
 use Rattle.async_tracker.specs.declared.next_work.ParkedWork.{ParkedWork}
 use Rattle.async_tracker.specs.declared.next_work.ParkedWork.TheVariants as parked
-use Rattle.async_tracker.specs.declared.task_moves.TaskMove.{TaskMove}
-use Rattle.async_tracker.specs.declared.task_moves.TaskMove.TheVariants as moves
 use Rattle.async_tracker.specs.declared.work_steps.WorkStep.TheVariants as steps
-use Rattle.async_tracker.proofs.QueuedClaims.{never_beside, never_beside_parked}
+use Rattle.single_steps.specs.TaskMoves.{IsNextInTask, step_of_move}
+use Rattle.single_steps.specs.declared.task_moves.TaskMove.{TaskMove}
+use Rattle.single_steps.specs.declared.task_moves.TaskMove.TheVariants as moves
 use Rattle.planned_work.specs.Deciding.{idle_next, moved_next, parked_next}
 use Rattle.planned_work.specs.Next.{Anywhere, IsIdleChoice, IsMove, IsParkedChoice, NextIn}
 use Rattle.planned_work.specs.Places.{place_of}
@@ -28,6 +30,19 @@ use Rattle.planned_work.specs.declared.trying.Tried.{Tried}
 use Rattle.planned_work.specs.declared.trying.Tried.TheVariants as tried
 use Rattle.planned_work.proofs.Carried.{Chosen, Makes, carried, chosen_next, decided_found}
 use Rattle.planned_work.proofs.Placed.{parked_there, task_there}
+
+-- where no unit is queued nothing can be popped of what the book offers
+nothing_to_claim : (g : GraphView) (w : WorkerId) (s : StateView) (queued : Bool) → BelongsTo g s → queued ≡ has_queued s → IsNone (IsQueued g s) → can_claim w s queued ≡ true → ⊥
+nothing_to_claim g w s queued belongs own none pops =
+    true≢false (sym (and_parts queued (can_lease s w) pops).0 ∙ (own ∙ sym (queued_by_lowest g s None belongs tt none)))
+
+-- an idle worker never goes for an item beside the book
+never_beside : (g : GraphView) (w : WorkerId) (s : StateView) (queued : Bool) → BelongsTo g s → queued ≡ has_queued s → IsNextWork g w s queued next.Beside → ⊥
+never_beside g w s queued belongs own is = nothing_to_claim g w s queued belongs own is.1 is.0
+
+-- nor does a parked one
+never_beside_parked : (g : GraphView) (w : WorkerId) (s : StateView) (queued : Bool) (a : ℕ) → BelongsTo g s → queued ≡ has_queued s → IsNextParkedWork g w s queued a parked.Beside → ⊥
+never_beside_parked g w s queued a belongs own is = nothing_to_claim g w s queued belongs own is.2 is.1
 
 -- decisions by these answers
 abbrev pub DecidesIdle : Sight → Sight → Decided NextWork → Type 0

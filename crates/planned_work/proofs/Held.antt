@@ -12,8 +12,8 @@ use Rattle.async_tracker.specs.declared.next_work.NextWork.{NextWork}
 use Rattle.async_tracker.specs.declared.next_work.NextWork.TheVariants as next
 use Rattle.async_tracker.specs.declared.next_work.ParkedWork.{ParkedWork}
 use Rattle.async_tracker.specs.declared.next_work.ParkedWork.TheVariants as parked
-use Rattle.async_tracker.specs.declared.task_moves.TaskMove.{TaskMove}
-use Rattle.async_tracker.specs.declared.task_moves.TaskMove.TheVariants as moves
+use Rattle.single_steps.specs.declared.task_moves.TaskMove.{TaskMove}
+use Rattle.single_steps.specs.declared.task_moves.TaskMove.TheVariants as moves
 use Rattle.planned_work.specs.Deciding.{idle_next, idle_then, moved_next, parked_next, parked_then, unless_stuck}
 use Rattle.planned_work.specs.Done.{answer_of, ends_hold, had_hold_closing, next_of_answer}
 use Rattle.planned_work.specs.Next.{had_hold}

@@ -18,9 +18,9 @@ use Rattle.lock_journal.proofs.Moves.{MayMove}
 use Rattle.lock_journal.proofs.Ranges.{each-append}
 use Rattle.lock_journal.proofs.lemmas.Fitting.{RangesApart}
 use Rattle.lock_journal.proofs.lemmas.OwnChanges.{own_holding_all}
-use Rattle.coordination.proofs.lemmas.FewMarks.{Keeps}
-use Rattle.async_tracker.proofs.TaskActions.{unit_runs_by}
-use Rattle.async_tracker.proofs.TaskEnds.{AreUnderTasks, action_runs_by}
+use Rattle.worker_notes.proofs.lemmas.FewMarks.{Keeps}
+use Rattle.single_steps.proofs.TaskActions.{unit_runs_by}
+use Rattle.single_steps.proofs.TaskEnds.{AreUnderTasks, action_runs_by}
 use Rattle.planned_work.specs.InPlace.{HasLock, HasReleasedTask, IsInPlace, parked_under}
 use Rattle.planned_work.proofs.Begun.{Begins, RunsNothing, Works, idle_runs, lands, moved, not_either, not_running, nothing_runs, ran, ran_before, some_runs, task_runs_by, works, works_to_fetch}
 use Rattle.planned_work.proofs.Left.{HasParked, acquiring_parks_nothing, actions_park_nothing, blocks_holding, ending_parks_nothing, giving_parks_nothing, parks_holding, resumes_parked, taken_then, unblocks_lease, unblocks_lease_then, unblocks_parked}

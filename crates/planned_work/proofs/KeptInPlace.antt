@@ -14,8 +14,8 @@ use Rattle.lock_journal.proofs.lemmas.Growing.{lawful-push, replay-push}
 use Rattle.lock_journal.proofs.lemmas.Named.{belongs, good}
 use Rattle.lock_journal.proofs.lemmas.Others.{others_after}
 use Rattle.coordination.proofs.Opening.{rests}
-use Rattle.coordination.proofs.lemmas.FewMarks.{keeps}
-use Rattle.async_tracker.proofs.TaskEnds.{under_tasks_after}
+use Rattle.worker_notes.proofs.lemmas.FewMarks.{keeps}
+use Rattle.single_steps.proofs.TaskEnds.{under_tasks_after}
 use Rattle.planned_work.specs.InPlace.{HasLock, HasReleasedTask, IsInPlace}
 use Rattle.planned_work.proofs.InPlace.{in_place_after}
 

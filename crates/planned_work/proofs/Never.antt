@@ -10,18 +10,18 @@ use Rattle.lock_journal.proofs.lemmas.Fitting.{apart_of}
 use Rattle.coordination.specs.Names.{Finds, blocked_shown, claimed_shown, lease_shown}
 use Rattle.coordination.specs.declared.rule.Sight.{Sight}
 use Rattle.async_tracker.specs.NextWork.{step_of_next, step_of_parked}
-use Rattle.async_tracker.specs.TaskMoves.{step_of_move}
 use Rattle.async_tracker.specs.WorkSteps.{IsRefused}
 use Rattle.async_tracker.specs.declared.next_work.NextWork.TheVariants as next
 use Rattle.async_tracker.specs.declared.next_work.ParkedWork.TheVariants as parked
-use Rattle.async_tracker.specs.declared.task_moves.TaskMove.TheVariants as moves
 use Rattle.async_tracker.specs.declared.work_steps.WorkStep.{WorkStep}
 use Rattle.async_tracker.specs.declared.work_steps.WorkStep.TheVariants as steps
-use Rattle.async_tracker.proofs.AtOnce.{next_end}
 use Rattle.async_tracker.proofs.Claiming.{close_never_waits}
-use Rattle.async_tracker.proofs.TaskActions.{all_range}
-use Rattle.async_tracker.proofs.TaskSteps.{cannot_skip}
 use Rattle.async_tracker.proofs.lemmas.NextWork.{never_refused}
+use Rattle.single_steps.specs.TaskMoves.{step_of_move}
+use Rattle.single_steps.specs.declared.task_moves.TaskMove.TheVariants as moves
+use Rattle.single_steps.proofs.AtOnce.{next_end}
+use Rattle.single_steps.proofs.TaskActions.{all_range}
+use Rattle.single_steps.proofs.TaskSteps.{cannot_skip}
 use Rattle.planned_work.specs.Done.{CloseLeaves, ClosedAlone, DoneIn, DoneLeaves, DoneNextIn, DoneNextLeaves, TakeUpLeaves, closed_as, next_of_answer}
 use Rattle.planned_work.specs.Fitting.{IsPlanFit}
 use Rattle.planned_work.specs.InPlace.{HasReleasedTask, ReleasesLast}

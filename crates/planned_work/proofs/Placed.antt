@@ -5,7 +5,7 @@ use Rattle.lock_journal.specs.Names.{mark_of, WorkerId, Mark, Running, Waiting, 
 use Rattle.lock_journal.proofs.lemmas.Claims.{action_runs, task_runs}
 use Rattle.coordination.specs.Names.{Finds, blocked_shown, claimed_shown}
 use Rattle.coordination.specs.declared.rule.Sight.{Sight}
-use Rattle.coordination.proofs.lemmas.Entries.{belongs_sound}
+use Rattle.worker_notes.proofs.lemmas.Entries.{belongs_sound}
 use Rattle.planned_work.specs.Places.{action_in, has_any, place_by, place_of, task_in, unit_in}
 use Rattle.planned_work.specs.declared.places.Place.TheVariants as places
 

@@ -13,15 +13,15 @@ use Rattle.coordination.specs.declared.rule.Sight.{Sight}
 use Rattle.async_tracker.specs.NextWork.{step_of_next, step_of_parked}
 use Rattle.async_tracker.specs.ParkedView.{ParkedView}
 use Rattle.async_tracker.specs.Shows.{IsFree, IsIdleOrParked, IsParkedBy, OwnsToPark, WorksOn}
-use Rattle.async_tracker.specs.TaskMoves.{IsNextInTask, can_come, fetch_waits, first_to_come, is_queued, step_of_move}
 use Rattle.async_tracker.specs.WorkSteps.{IsRefused, RetriesAt}
 use Rattle.async_tracker.specs.declared.next_work.NextWork.TheVariants as next
 use Rattle.async_tracker.specs.declared.next_work.ParkedWork.TheVariants as parked
-use Rattle.async_tracker.specs.declared.task_moves.TaskMove.TheVariants as moves
 use Rattle.async_tracker.specs.declared.work_steps.WorkStep.{WorkStep}
 use Rattle.async_tracker.specs.declared.work_steps.WorkStep.TheVariants as steps
-use Rattle.async_tracker.proofs.AtOnce.{next_fetch, next_items, next_wait}
 use Rattle.async_tracker.proofs.lemmas.NextWork.{fits_in, idle_claims, never_refused, parked_claims, resumes, same_step, starts}
+use Rattle.single_steps.specs.TaskMoves.{IsNextInTask, can_come, fetch_waits, first_to_come, is_queued, step_of_move}
+use Rattle.single_steps.specs.declared.task_moves.TaskMove.TheVariants as moves
+use Rattle.single_steps.proofs.AtOnce.{next_fetch, next_items, next_wait}
 use Rattle.planned_work.specs.Next.{IsIdleChoice, IsMove, IsParkedChoice}
 
 -- the claim of the lowest queued unit

@@ -12,7 +12,7 @@ use Rattle.coordination.specs.declared.turns.Came.{Came}
 use Rattle.coordination.specs.declared.turns.Came.TheVariants as came
 use Rattle.coordination.proofs.Calls.{has_decided, has_finished, has_followed, is_answered}
 use Rattle.coordination.proofs.TurnAfterTurn.{done_on, looked_not, no_memory_on}
-use Rattle.coordination.proofs.lemmas.Growing.{agrees_same, agrees_then}
+use Rattle.worker_notes.proofs.lemmas.Growing.{agrees_same, agrees_then}
 use Rattle.planned_work.specs.Trying.{DecisionLeaves, FollowLeaves, HasToWaitFor, InBook, NeverFailed, NeverHappens, OfBook, RunLeaves, WaitsOfBook, behind_of, ran_of, tried_of}
 
 -- the graph stays

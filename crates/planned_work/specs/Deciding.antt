@@ -4,8 +4,8 @@ use Rattle.async_tracker.specs.declared.next_work.NextWork.{NextWork}
 use Rattle.async_tracker.specs.declared.next_work.NextWork.TheVariants as next
 use Rattle.async_tracker.specs.declared.next_work.ParkedWork.{ParkedWork}
 use Rattle.async_tracker.specs.declared.next_work.ParkedWork.TheVariants as parked
-use Rattle.async_tracker.specs.declared.task_moves.TaskMove.{TaskMove}
-use Rattle.async_tracker.specs.declared.task_moves.TaskMove.TheVariants as moves
+use Rattle.single_steps.specs.declared.task_moves.TaskMove.{TaskMove}
+use Rattle.single_steps.specs.declared.task_moves.TaskMove.TheVariants as moves
 use Rattle.coordination.specs.declared.decisions.Decided.TheVariants as decided
 use Rattle.planned_work.specs.declared.answers.Next.{Next}
 use Rattle.planned_work.specs.declared.answers.Next.TheVariants.{Do, GoesOn, Busy, Again, NoMemory, Stuck}

@@ -7,15 +7,15 @@ use Rattle.worker_choices.specs.NextSteps.{HasNothingToDo, HasToWait}
 use Rattle.coordination.specs.Names.{HasFinished, HasLooked, IsAnswered, hearing}
 use Rattle.coordination.specs.declared.rule.Sight.{Sight}
 use Rattle.async_tracker.specs.NextWork.{IsNextParkedWork, IsNextWork, step_of_next, step_of_parked}
-use Rattle.async_tracker.specs.TaskMoves.{IsNextInTask, step_of_move}
 use Rattle.async_tracker.specs.WorkSteps.{IsRefused}
 use Rattle.async_tracker.specs.declared.next_work.NextWork.{NextWork}
 use Rattle.async_tracker.specs.declared.next_work.NextWork.TheVariants as next
 use Rattle.async_tracker.specs.declared.next_work.ParkedWork.{ParkedWork}
 use Rattle.async_tracker.specs.declared.next_work.ParkedWork.TheVariants as parked
-use Rattle.async_tracker.specs.declared.task_moves.TaskMove.{TaskMove}
-use Rattle.async_tracker.specs.declared.task_moves.TaskMove.TheVariants as moves
 use Rattle.async_tracker.specs.declared.work_steps.WorkStep.{WorkStep}
+use Rattle.single_steps.specs.TaskMoves.{IsNextInTask, step_of_move}
+use Rattle.single_steps.specs.declared.task_moves.TaskMove.{TaskMove}
+use Rattle.single_steps.specs.declared.task_moves.TaskMove.TheVariants as moves
 use Rattle.planned_work.specs.Places.{may_next, place_of}
 use Rattle.planned_work.specs.Trying.{HasToWaitFor}
 use Rattle.planned_work.specs.declared.answers.Next.{Next}

@@ -3,7 +3,7 @@ use Rattle.std.specs.Prelude.{ℕ, ◌≡◌, List, ◌++◌, length}
 use Rattle.std.specs.List.{All}
 use Rattle.item_actions.specs.declared.outcomes.Outcome.{Outcome}
 use Rattle.lock_journal.specs.Names.{Good, GraphView, Lawful, Entry, replay, BookView, HasEnded, IsEnded, ComesTo, GivesClosedOutcomes, IsOrderly}
-use Rattle.coordination.specs.Agrees.{IsSoundBook}
+use Rattle.worker_notes.specs.Agrees.{IsSoundBook}
 use Rattle.coordination.specs.declared.rule.Sight.{Sight}
 
 -- The book that the worker has seen is sound, and all tasks have ended there, as it was told (`IsToldTheEnd`).

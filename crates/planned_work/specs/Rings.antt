@@ -4,7 +4,7 @@ use Rattle.resource_lock.specs.declared.ids.WorkerId.{WorkerId}
 use Rattle.worker_choices.specs.declared.woken.Woken.{Woken}
 use Rattle.worker_choices.specs.declared.woken.Woken.TheVariants as woken
 use Rattle.coordination.specs.Planned.{HasEndedTryOf}
-use Rattle.coordination.specs.SleepAndWake.{wakes_nobody}
+use Rattle.worker_notes.specs.SleepAndWake.{wakes_nobody}
 use Rattle.coordination.specs.declared.rule.Sight.{Sight}
 use Rattle.planned_work.specs.declared.rings.Rings.{Rings}
 

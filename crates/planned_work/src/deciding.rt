@@ -4,8 +4,9 @@ ghost use Rattle.planned_work.specs.Deciding.{idle_next, idle_then, moved_next, 
 
 use crate::answers::{Next, Work};
 use crate::trying::{Behind, Tried};
-use async_tracker::{NextWork, ParkedWork, TaskMove};
+use async_tracker::{NextWork, ParkedWork};
 use coordination::Decided;
+use single_steps::TaskMove;
 
 /// What an idle worker does next.
 pub(crate) fn idle_next(tried: Tried<NextWork>) -> Next

@@ -13,7 +13,8 @@ use crate::places::{Place, place_of};
 use crate::rings::Rings;
 use crate::trying::try_decision;
 use crate::workers::PlanWorker;
-use async_tracker::{MoveInTask, TakeNextWork, TakeParkedWork};
+use async_tracker::{TakeNextWork, TakeParkedWork};
+use single_steps::MoveInTask;
 
 impl PlanWorker {
     /// Says what the worker does next, and makes the entry that this needs, in one hold: an item is claimed, a fetch begun, a task

@@ -5,7 +5,7 @@ use Rattle.std.proofs.lemmas.List.{take-append-le, take_all, get_or-replicate, l
 use Rattle.std.proofs.lemmas.List.Elements.{All-weaker}
 use mathlib.Core.List.{IsPrefix}
 use Rattle.lock_journal.specs.Names.{GraphView, WorkerId, leases_out, Entry, prefix_state, replay, BookView}
-use Rattle.coordination.specs.WorkerEntries.{last_in, last_of}
+use Rattle.worker_notes.specs.WorkerEntries.{last_in, last_of}
 use Rattle.history_views.specs.Growing.{IsLater}
 use Rattle.history_views.specs.declared.views.Extent.{Extent}
 use Rattle.run_watch.specs.Looks.{AreLooksAt, IsBoardOf, IsRoomFor, MayShow, WasSeenIn}

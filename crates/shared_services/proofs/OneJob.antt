@@ -6,7 +6,7 @@ use Rattle.lock_journal.specs.Names.{GraphView, Holding, StateView, holding_of, 
 use Rattle.lock_journal.specs.Names.{replay, owned, Kind, Acquire, HandBack, NoneOf}
 use Rattle.coordination.specs.Names.{IsSoundBook, Making, HasFinished, HoldsNothing, entry_count_of, last_of}
 use Rattle.coordination.specs.declared.rule.Sight.{Sight}
-use Rattle.coordination.proofs.lemmas.Growing.{last_of-own}
+use Rattle.worker_notes.proofs.lemmas.Growing.{last_of-own}
 use Rattle.shared_services.specs.Services.{AreOneOfEach, AreServices}
 use Rattle.shared_services.specs.Takings.{taken}
 use Rattle.shared_services.specs.Done.{IsRunIn, OwnsOneOfEach, given_back}

@@ -4,7 +4,7 @@ use Rattle.std.proofs.lemmas.Bool.{cases_lt, false≢true}
 use Rattle.std.proofs.lemmas.List.{get_or_past}
 use Rattle.lock_journal.specs.Names.{StateView, is_owner, owner_of, LockId, WorkerId, owned, owned_from}
 use Rattle.resource_lock.proofs.lemmas.Undo.{owner_from, same_lock}
-use Rattle.coordination.proofs.lemmas.Nothing.{owns_none}
+use Rattle.worker_notes.proofs.lemmas.Nothing.{owns_none}
 use Rattle.shared_services.specs.Services.{AreOneOfEach, AreServices, IsLockOfService, maximum_of, no_lock}
 use Rattle.shared_services.proofs.lemmas.Places.{ends_before}
 use Rattle.shared_services.specs.Done.{OwnsOneOfEach}

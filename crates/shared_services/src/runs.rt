@@ -2,7 +2,7 @@
 ghost use Rattle.std.specs.Prelude.{◌≡◌, ◌<◌, ◌≤◌, ◌+◌, ◌-◌, ◌^◌, ℕ, [], All, IfOk, Ok, get_or, length, map};
 ghost use Rattle.std.specs.Prelude.{vec_capacity, vec_len};
 ghost use Rattle.resource_lock.specs.AtRest.{IsAtRest};
-ghost use Rattle.coordination.specs.Agrees.{Agrees, IsSoundBook};
+ghost use Rattle.worker_notes.specs.Agrees.{Agrees, IsSoundBook};
 ghost use Rattle.coordination.specs.Holds.{HoldsNothing};
 ghost use Rattle.coordination.specs.Passes.{PassView};
 ghost use Rattle.coordination.specs.Sights.{workers_from};

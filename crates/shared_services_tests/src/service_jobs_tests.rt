@@ -5,8 +5,8 @@ ghost use Rattle.shared_services.specs.Fit.{FitJobs};
 
 use crate::books::{EntryRow, TWO_SERVICES, has_entries, table_of};
 use crate::replays::{MAXIMA, is_run_of};
-use file_access::{FileEntry, FileMap};
 use item_actions::{ItemAction, Outcome, Text};
+use memory_files::{FileEntry, FileMap};
 use resource_lock::{Change, LockId};
 use shared_services::{Job, JobDone, JobsEnd, MAX_DESKS, MAX_JOBS, ServiceTable, run_jobs};
 use std::alloc::{AllocError, Global};

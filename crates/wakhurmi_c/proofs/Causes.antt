@@ -11,7 +11,7 @@ use Rattle.resource_lock.proofs.lemmas.Runs.{worker_from}
 use Rattle.lock_transforms.specs.declared.entries.Kind.TheVariants as kinds
 use Rattle.coordination.specs.Names.{Finds, Cause, Making, blocked_shown, lease_shown, locks_shown, parked_shown}
 use Rattle.coordination.specs.declared.rule.Sight.{Sight}
-use Rattle.coordination.proofs.lemmas.Entries.{belongs_sound, good_sound}
+use Rattle.worker_notes.proofs.lemmas.Entries.{belongs_sound, good_sound}
 use Rattle.blocking_section.proofs.lemmas.Up.{leaves_without}
 use Rattle.shared_services.specs.Takings.{HasTheLocks, IsShort, MayNotTake, TakesUses, has_nothing}
 use Rattle.wakhurmi_c.specs.Calls.{EnterLeaves, HandBackLeaves, LeaveLeaves, TakeLeaves}

@@ -11,9 +11,10 @@ use crate::answers::Answer;
 use crate::book_handles::BookHandle;
 use crate::part_handles::PartHandle;
 use crate::taken_parts::TakenPart;
-use file_access::{Failed, MemorySink, Page, Sink};
+use file_access::{Failed, Page, Sink};
 use history_text::{write_end, write_entry, write_head, write_head_lines};
 use lock_journal::{Book, Segment};
+use memory_files::MemorySink;
 use std::alloc::Global;
 
 /// What has lines of a history's text.

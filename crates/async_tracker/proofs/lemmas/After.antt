@@ -1,19 +1,12 @@
 -- What is so by the answer of a call.
-use Rattle.std.proofs.Common.{◌≡◌, ◌≢◌, Bool, true, false, Result, Ok, Err, refl, sym, ◌<◌, subst}
-use Rattle.std.specs.Prelude.{IfOk, OnErr, OnOk}
+use Rattle.std.proofs.Common.{◌≡◌, Result, Ok, Err, refl, sym, ◌<◌, subst}
+use Rattle.std.specs.Prelude.{IfOk, OnErr}
 use Rattle.lock_journal.specs.Names.{GraphView, WorkerId, BookView, Kind}
-use Rattle.coordination.specs.Names.{Finds, Cause, Making, AskedInVain, HasFailed, HasFinished, HasLooked, ShowsTheSame}
-use Rattle.coordination.proofs.lemmas.Growing.{agrees_self}
+use Rattle.coordination.specs.Names.{Finds, Making, AskedInVain, HasFinished, HasLooked, ShowsTheSame}
+use Rattle.worker_notes.proofs.lemmas.Growing.{agrees_self}
 use Rattle.coordination.proofs.lemmas.Shown.{stopped_shows}
 use Rattle.coordination.specs.declared.rule.Sight.{Sight}
 use Rattle.coordination.specs.declared.halts.Halt.{Halt}
-
--- what is so at every other answer
-pub unless_finished : {P : Type 0} (r : Result Bool Halt) → (r ≡ Ok false → P) → (r ≡ Err Halt.NoMemory → P) → ((by : WorkerId) → r ≡ Err (Halt.Stopped by) → P) → r ≢ Ok true → P
-unless_finished (Ok true) failed no_memory stopped ne = absurd (ne refl)
-unless_finished (Ok false) failed no_memory stopped ne = failed refl
-unless_finished (Err Halt.NoMemory) failed no_memory stopped ne = no_memory refl
-unless_finished (Err (Halt.Stopped by)) failed no_memory stopped ne = stopped by refl
 
 -- what is so at an error
 pub halted : {P X : Type 0} (r : Result X Halt) (e : Halt) → r ≡ Err e → (r ≡ Err Halt.NoMemory → P) → ((by : WorkerId) → r ≡ Err (Halt.Stopped by) → P) → P
@@ -23,25 +16,6 @@ halted r (Halt.Stopped by) is no_memory stopped = stopped by is
 pub on_err : {T E P : Type 0} (r : Result T E) → P → OnErr r P
 on_err (Ok x) p = tt
 on_err (Err e) p = p
-
-pub from_ok : {T E P : Type 0} (r : Result T E) (x : T) → r ≡ Ok x → OnOk r P → P
-from_ok (Ok y) x is p = p
-from_ok (Err e) x is p = absurd (cc)
-
-pub ok_is : {E : Type 0} {b d : Bool} → ◌≡◌ {A = Result Bool E} (Ok b) (Ok d) → b ≡ d
-ok_is is = cc
-
--- the same failure with another cause that held there
-pub failed_for : {kind : Kind} {cause other : Cause} {old new : Sight} (f : HasFailed kind cause old new) → other f.before.graph old.worker f.before.state → HasFailed kind other old new
-failed_for f held = record {
-  before = f.before;
-  after = f.after;
-  found = f.found;
-  graph = f.graph;
-  failed = record { cause = held; allowed = f.failed.allowed; history = f.failed.history; state = f.failed.state };
-  left = f.left;
-  sight = f.sight;
-}
 
 pub if_ok : {T E : Type 0} (P : T → Type 0) (r : Result T E) (x : T) → r ≡ Ok x → IfOk r P → P x
 if_ok P (Ok y) x is p = subst P (cc) p

@@ -6,7 +6,6 @@ use Rattle.lock_journal.specs.Names.{Fits, GraphView, Holding, StateView, mark_o
 use Rattle.ready_work.specs.Choices.{IsQueued}
 use Rattle.lock_journal.proofs.Queue.{queued_is_item}
 use Rattle.coordination.specs.Names.{Finds, Making, HasFinished, HasDecided, IsToWaitIn, HoldsNothing, AsTold, Telling}
-use Rattle.coordination.specs.Decisions.{HasFailedIn}
 use Rattle.coordination.specs.declared.decisions.Decided.{Decided}
 use Rattle.coordination.specs.declared.decisions.Decided.TheVariants as decided
 use Rattle.coordination.specs.declared.rule.Sight.{Sight}
@@ -14,7 +13,6 @@ use Rattle.coordination.proofs.lemmas.Shown.{answered_shows, failed_shows}
 use Rattle.async_tracker.specs.NextWork.{HasClaimed, IsNextParkedWork, IsNextParkedWorkIf, IsNextWork, IsNextWorkIf, ShowsNextWork, ShowsParkedWork, next_of, parked_of, step_of_next, step_of_parked}
 use Rattle.async_tracker.specs.ParkedView.{ParkedView}
 use Rattle.async_tracker.specs.Shows.{IsFree, IsIdleOrParked, IsItemHere, IsParkedBy}
-use Rattle.async_tracker.specs.Tasks.{CannotSkip}
 use Rattle.async_tracker.specs.WorkSteps.{FailsAt, IsRefused, RetriesAt, kind_of_work}
 use Rattle.async_tracker.specs.declared.next_work.NextWork.{NextWork}
 use Rattle.async_tracker.specs.declared.next_work.NextWork.TheVariants as next
@@ -24,7 +22,7 @@ use Rattle.async_tracker.specs.declared.work_steps.WorkStep.{WorkStep}
 use Rattle.async_tracker.specs.declared.work_steps.WorkStep.TheVariants as steps
 use Rattle.async_tracker.proofs.Claiming.{claimed_shows}
 use Rattle.async_tracker.proofs.QueuedClaims.{claims_at_once}
-use Rattle.async_tracker.proofs.TaskSteps.{cannot_skip, cannot_start, skipped_shows, started_shows}
+use Rattle.async_tracker.proofs.TaskSteps.{cannot_start, skipped_shows, started_shows}
 use Rattle.async_tracker.proofs.lemmas.Resumed.{resumed_shows, resumes_at_once}
 
 -- the step neither fails nor asks to be run again
@@ -129,12 +127,6 @@ module _ (tells : Telling) (old new : Sight) where
   skip_never_waits t k =
       let again = subst (λ (x : WorkStep). RetriesAt x k.before.graph old.worker k.before.state) (same_step k.step (steps.Skip t) (sym k.is)) k.unchanged.cause in
       skip_goes k.before.graph old.worker k.before.state k.answer.0 t k.answer.2 again
-
-  -- a skip fails where one of the task's marks can't be skipped
-  pub skip_fails : (t : ℕ) → HoldsNothing old → (f : HasFailedIn (AsTold tells IsNextWorkIf) step_of_next kind_of_work FailsAt old new (next.Skip t)) → CannotSkip t f.failed.before.graph old.worker f.failed.before.state
-  skip_fails t rests f =
-      let book : BookView = f.failed.before in
-      cannot_skip old book t f.failed.found rests (subst (λ (x : WorkStep). FailsAt x book.graph old.worker book.state) (same_step f.step (steps.Skip t) (sym f.is)) f.failed.failed.cause)
 
   -- what was decided was done: of its steps a skip alone may fail, and none waits
   pub work_shows : (d : Decided NextWork) → DecidesWork d → Fits old.seen.graph → HoldsNothing old → ShowsNextWork old new (next_of d)

@@ -1,5 +1,5 @@
 -- Where a parked worker can go on, and what that leaves.
-use Rattle.std.proofs.Common.{◌≡◌, ℕ, ◌<◌, Bool, true, false, not, ◌&&◌, ◌||◌, cond, eqb, inl, inr, List, [], ◌∷◌, ◌++◌, length, Option, None, Some, refl, sym, ap, ◌∙◌, subst, arith}
+use Rattle.std.proofs.Common.{◌≡◌, ℕ, ◌<◌, Bool, true, false, not, ◌&&◌, ◌||◌, cond, eqb, inl, inr, List, [], ◌∷◌, ◌++◌, length, None, Some, refl, sym, ap, ◌∙◌, subst, arith}
 use Rattle.std.specs.Prelude.{find, is_none, nat_lt}
 use Rattle.std.specs.List.{list_all}
 use Rattle.std.proofs.lemmas.Bool.{and_from, and_parts, cases_lt, eq-eqb, false≢true, false_from_ne_true, not-true}
@@ -7,24 +7,23 @@ use Rattle.std.proofs.lemmas.List.{get_or_past}
 use Rattle.lock_journal.specs.Names.{can, can_all, holding_after, make, same_mark, stands_last, without_last, Good, GraphView, action_of, items_of}
 use Rattle.lock_journal.specs.Names.{lock_with, Holding, StateView, has_parked, holding_of, kept_from, leases_out, mark_of, owner_of, owns, runs_unit}
 use Rattle.lock_journal.specs.Names.{stands_in, IsWorkerOf, can_lease, Lock, Take, Move, Unpark, Retention, Retain, Release, ReleaseAndReacquire}
-use Rattle.lock_journal.specs.Names.{LockId, WorkerId, Mark, Waiting, Queued, Running, Passed, Failed, Skipped, MarkId, ActionOf, UnitOf, IsDisabled}
-use Rattle.lock_journal.specs.Names.{IsFixedList, BookView, Entry, replay, Lawful, condition, has_ended, on_resume, can_take_all, Resume, IsEnded}
+use Rattle.lock_journal.specs.Names.{LockId, WorkerId, Waiting, Running, Passed, ActionOf, UnitOf, IsDisabled}
+use Rattle.lock_journal.specs.Names.{IsFixedList, BookView, condition, has_ended, on_resume, can_take_all, Resume}
 use Rattle.lock_journal.specs.Names.{mark_before, with_if, without_if, without_member}
 use Rattle.resource_lock.specs.Change.{inverse_of}
 use Rattle.resource_lock.proofs.lemmas.Kept.{can_back, leases-with_holding}
 use Rattle.resource_lock.proofs.lemmas.Runs.{worker_from}
 use Rattle.resource_lock.proofs.lemmas.Undo.{last_from}
 use Rattle.lock_transforms.proofs.lemmas.Locking.{free_lock}
-use Rattle.lock_journal.proofs.lemmas.Growing.{marks_stay}
 use Rattle.lock_journal.proofs.lemmas.OwnChanges.{own_holding_all}
-use Rattle.coordination.specs.Names.{Finds, IsSoundBook, HasFinished, HasLooked, IsAnswered, blocked_shown, claimed_shown, lease_shown, locks_shown}
+use Rattle.coordination.specs.Names.{Finds, HasFinished, blocked_shown, claimed_shown, lease_shown, locks_shown}
 use Rattle.coordination.specs.Names.{parked_shown}
 use Rattle.coordination.specs.declared.rule.Sight.{Sight}
-use Rattle.coordination.proofs.lemmas.Entries.{belongs_sound, good_sound}
+use Rattle.worker_notes.proofs.lemmas.Entries.{belongs_sound, good_sound}
 use Rattle.async_tracker.specs.ParkedView.{ParkedView}
 use Rattle.async_tracker.specs.Shows.{HasParkedLast, IsFree, IsParkedBy, ShowsResumed, lease_on_resume, locks_on_resume, parked_on_resume}
 use Rattle.worker_choices.specs.NextSteps.{CanGoOn, can_take_again, first_open}
-use Rattle.async_tracker.specs.Waits.{CannotResume, CannotTakeAgain, IsFirstOpen}
+use Rattle.async_tracker.specs.Waits.{CannotTakeAgain}
 use Rattle.coordination.proofs.lemmas.Shown.{Leaves, shows_left}
 use Rattle.lock_journal.proofs.lemmas.Claims.{action_runs, unit_claimed}
 use Rattle.async_tracker.proofs.Parking.{stands_in-last}
@@ -36,42 +35,6 @@ none_open p (x ∷ xs) = elim (p x) as (λ b. is_none (cond (not b) (Some x) (fi
   | true ↦ none_open p xs
   | false ↦ refl
 ]
-
-none_from : {X : Type 0} (o : Option X) → is_none o ≡ true → o ≡ None
-none_from None is = refl
-none_from (Some x) is = absurd (false≢true is)
-
-ended_is : (m : Mark) → has_ended m ≡ true → IsEnded m
-ended_is Passed h = tt
-ended_is Failed h = tt
-ended_is Skipped h = tt
-ended_is Waiting h = absurd (false≢true h)
-ended_is Queued h = absurd (false≢true h)
-ended_is (Running v) h = absurd (false≢true h)
-
-all_on : {X : Type 0} (p q : X → Bool) → ((x : X) → p x ≡ true → q x ≡ true) → (xs : List X) → list_all p xs ≡ true → list_all q xs ≡ true
-all_on p q f [] h = refl
-all_on p q f (x ∷ xs) h = let parts = and_parts _ _ h in and_from _ _ (f x parts.0) (all_on p q f xs parts.1)
-
--- a mark that has ended in what the pass saw is the same in every book that is found
-ended_found : (old : Sight) (book : BookView) (m : MarkId) → IsSoundBook old.seen → Finds old.worker old.seen book → has_ended (mark_of old.seen.state m) ≡ true → has_ended (mark_of book.state m) ≡ true
-ended_found old book m sound found h =
-    let g : GraphView = old.seen.graph in
-    let between : List Entry = found.agrees.between in
-    let lawful : Lawful g (old.seen.history ++ between) = subst (Lawful g) found.agrees.history (subst (λ (k : GraphView). Lawful k book.history) found.agrees.graph found.sound.lawful) in
-    let now : book.state ≡ replay g (old.seen.history ++ between) = found.sound.replays ∙ (λ i. replay (found.agrees.graph i) (found.agrees.history i)) in
-    let ended : has_ended (mark_of (replay g old.seen.history) m) ≡ true = ap (λ (s : StateView). has_ended (mark_of s m)) (sym sound.replays) ∙ h in
-    ap (λ (s : StateView). has_ended (mark_of s m)) now ∙ (ap has_ended (marks_stay g old.seen.history between m lawful (ended_is _ ended)) ∙ ended)
-
-pub none_open_found : (old : Sight) (book : BookView) (a : ℕ) → IsSoundBook old.seen → Finds old.worker old.seen book → first_open old.seen.graph old.seen.state a ≡ None → first_open book.graph book.state a ≡ None
-none_open_found old book a sound found none =
-    let before : list_all (λ u. has_ended (mark_of old.seen.state (UnitOf u))) (items_of old.seen.graph a) ≡ true = sym (none_open _ (items_of old.seen.graph a)) ∙ ap is_none none in
-    let after : list_all (λ u. has_ended (mark_of book.state (UnitOf u))) (items_of old.seen.graph a) ≡ true =
-    all_on (λ u. has_ended (mark_of old.seen.state (UnitOf u))) (λ u. has_ended (mark_of book.state (UnitOf u))) (λ u h. ended_found old book (UnitOf u) sound found h) (items_of old.seen.graph a) before in
-    subst (λ (g : GraphView). first_open g book.state a ≡ None) (sym found.agrees.graph) (none_from _ (none_open _ (items_of old.seen.graph a) ∙ after))
-
-pub looked_none : {old new : Sight} (a : ℕ) → IsSoundBook old.seen → first_open old.seen.graph old.seen.state a ≡ None → HasLooked old new → IsAnswered (IsFirstOpen a) None old new
-looked_none {old} a sound none looked = record { book = looked.book; found = looked.found; answer = sym (none_open_found old looked.book a sound looked.found none); sight = looked.sight }
 
 -- What is so of a parked worker in a state that it finds.
 record Waits (s : StateView) (w : WorkerId) (a : ℕ) : Type 0 where
@@ -137,7 +100,7 @@ action_within s w a runs = elim (cases_lt a (length s.actions)) [
 ]
 
 -- once its items have ended, a parked worker waits only for what the retention takes again
-waits_to_take : (old : Sight) (book : BookView) (p : ParkedView) → Finds old.worker old.seen book → IsParkedBy old p → IsFree old → first_open book.graph book.state p.action ≡ None
+pub waits_to_take : (old : Sight) (book : BookView) (p : ParkedView) → Finds old.worker old.seen book → IsParkedBy old p → IsFree old → first_open book.graph book.state p.action ≡ None
     → IsDisabled (Resume p.action) book.graph old.worker book.state → CannotTakeAgain (action_of book.graph p.action).retention (lock_with book.graph p.action) old.worker book.state
 waits_to_take old book p found by free open_none disabled =
     let w : WorkerId = old.worker in
@@ -162,12 +125,6 @@ waits_to_take old book p found by free open_none disabled =
     let lock : HasParkedLast (action_of g a).retention (lock_with g a) old = subst (λ (k : GraphView). HasParkedLast (action_of k a).retention (lock_with k a) old) (sym found.agrees.graph) by.lock in
     let last = last_found (action_of g a).retention (lock_with g a) old s (ap (λ (h : Holding). h.parked) same.holding) lock in
     cannot_take (action_of g a).retention (lock_with g a) s w a waits last (λ all. false≢true (sym (disabled here) ∙ and_from _ _ holds all))
-
-pub cannot_resume : (old : Sight) (book : BookView) (p : ParkedView) → IsSoundBook old.seen → Finds old.worker old.seen book → IsParkedBy old p → IsFree old → first_open old.seen.graph old.seen.state p.action ≡ None
-    → IsDisabled (Resume p.action) book.graph old.worker book.state → CannotResume p.action book.graph old.worker book.state
-cannot_resume old book p sound found by free none disabled =
-    let open_none : first_open book.graph book.state p.action ≡ None = none_open_found old book p.action sound found none in
-    (open_none, waits_to_take old book p found by free open_none disabled)
 
 can_take : (r : Retention) (l : LockId) (w : WorkerId) (s : StateView) → can_take_again r l w s ≡ true → CannotTakeAgain r l w s → ⊥
 can_take Retain l w s free cannot = false≢true (sym cannot ∙ free)

@@ -1,31 +1,13 @@
--- Two calls in turn, of which the first makes no entry.
+-- What a pass shows behind a call that leaves what it shows, and behind a claim and its close.
 use Rattle.std.proofs.Common.{◌≡◌, ℕ, Bool, false, cond, List, [], ◌∷◌, inl, inr, sym, ap, ◌∙◌, subst, arith}
 use Rattle.std.specs.Prelude.{Contains}
-use Rattle.std.specs.List.{list_any}
 use Rattle.std.proofs.lemmas.Bool.{cases_Bool, le-ltb}
-use Rattle.lock_journal.specs.Names.{stands_last, GraphView, action_of, lock_with, Retention, Retain, Release, ReleaseAndReacquire, LockId, WorkerId}
-use Rattle.lock_journal.specs.Names.{MarkId, ActionOf, UnitOf, BookView, Kind, is_action, is_unit, mark_before, with_member, without_member}
-use Rattle.coordination.specs.Names.{Finds, Cause, Making, HasFinished, IsAnswered, WasStopped, ShowsTheSame, lease_shown}
+use Rattle.lock_journal.specs.Names.{stands_last, GraphView, action_of, lock_with, Retention, Retain, Release, ReleaseAndReacquire, LockId}
+use Rattle.lock_journal.specs.Names.{MarkId, ActionOf, UnitOf, mark_before, with_member, without_member}
+use Rattle.coordination.specs.Names.{ShowsTheSame, lease_shown}
 use Rattle.coordination.specs.declared.rule.Sight.{Sight}
-use Rattle.coordination.proofs.lemmas.Growing.{agrees_then}
 use Rattle.async_tracker.specs.ParkedView.{ParkedView}
-use Rattle.async_tracker.specs.Shows.{HasParkedLast, IsFree, IsIdleOrParked, IsParkedBy, ShowsClaimed, ShowsClosed, ShowsParked, ShowsResumed, locks_on_park, locks_on_resume, parked_on_park, parked_on_resume}
-
-module _ {A : Type 0} {answers : WorkerId → BookView → A → Type 0} {a : A} {old mid : Sight} (q : IsAnswered answers a old mid) where
-  found_later : (book : BookView) → Finds old.worker q.book book → Finds old.worker old.seen book
-  found_later book found = record { agrees = agrees_then old.worker old.seen q.book book q.found.agrees found.agrees; sound = found.sound; known = found.known }
-
-  pub finished_then : {kind : Kind} {makes : Making} {new : Sight} → HasFinished kind makes mid new → HasFinished kind makes old new
-  finished_then {kind} {makes} {new} = subst (λ (s : Sight). HasFinished kind makes s new → HasFinished kind makes old new) (sym q.sight)
-      (λ f. record { before = f.before; after = f.after; changes = f.changes; found = found_later f.before f.found; graph = f.graph; finished = f.finished; left = f.left; sight = f.sight })
-
-  pub answered_then : {B : Type 0} {others : WorkerId → BookView → B → Type 0} {b : B} {new : Sight} → IsAnswered others b mid new → IsAnswered others b old new
-  answered_then {B} {others} {b} {new} = subst (λ (s : Sight). IsAnswered others b s new → IsAnswered others b old new) (sym q.sight)
-      (λ r. record { book = r.book; found = found_later r.book r.found; answer = r.answer; sight = r.sight })
-
-  pub stopped_then : {cause : Cause} {by : WorkerId} {new : Sight} → WasStopped cause by mid new → WasStopped cause by old new
-  stopped_then {cause} {by} {new} = subst (λ (s : Sight). WasStopped cause by s new → WasStopped cause by old new) (sym q.sight)
-      (λ r. record { book = r.book; found = found_later r.book r.found; cause = r.cause; stopper = r.stopper; sight = r.sight })
+use Rattle.async_tracker.specs.Shows.{HasParkedLast, IsParkedBy, ShowsClaimed, ShowsClosed, ShowsParked, ShowsResumed, locks_on_park, locks_on_resume, parked_on_park, parked_on_resume}
 
 -- what is so of a pass that shows the same
 pub shows_then : {a b c : Sight} → ShowsTheSame a b → ShowsTheSame b c → ShowsTheSame a c
@@ -38,9 +20,6 @@ shows_then p q = record {
   parked = q.parked ∙ p.parked;
   blocked = q.blocked ∙ p.blocked;
 }
-
-pub free_still : {old new : Sight} → ShowsTheSame old new → IsFree old → IsFree new
-free_still same free = record { lease = same.lease ∙ free.lease; blocked = same.blocked ∙ free.blocked; units = ap (list_any is_unit) same.claimed ∙ free.units }
 
 last_still : (r : Retention) (l : LockId) {old new : Sight} → ShowsTheSame old new → HasParkedLast r l old → HasParkedLast r l new
 last_still Retain l same last = tt
@@ -55,10 +34,6 @@ parked_still {old} {new} p same by =
       action = subst (λ (ms : List MarkId). Contains ms (ActionOf p.action)) (sym same.claimed) by.action;
       lock = subst (λ (g : GraphView). HasParkedLast (action_of g p.action).retention (lock_with g p.action) new) (sym same.graph) last;
     }
-
-pub waits_still : {old new : Sight} → ShowsTheSame old new → IsIdleOrParked old → IsIdleOrParked new
-waits_still same (inl idle) = inl (same.locks ∙ idle.0, same.claimed ∙ idle.1)
-waits_still same (inr parked) = inr (ap (list_any is_action) same.claimed ∙ parked)
 
 -- what the pass shows of a worker that parks, resumes or claims goes by what it showed before a call that changed nothing of it
 pub parked_from : {old mid new : Sight} (r : Retention) (l : LockId) (a : ℕ) → ShowsTheSame old mid → ShowsParked r l a mid new → ShowsParked r l a old new

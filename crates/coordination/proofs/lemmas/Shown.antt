@@ -7,7 +7,7 @@ use Rattle.lock_journal.proofs.lemmas.OwnChanges.{own_claimed_all, own_holding_a
 use Rattle.coordination.specs.Names.{Agrees, Cause, Making, HasFailed, HasFinished, HasLooked, IsAnswered, WasStopped, Shows, ShowsTheSame}
 use Rattle.coordination.specs.Names.{blocked_shown, claimed_shown, locks_shown}
 use Rattle.coordination.specs.declared.rule.Sight.{Sight}
-use Rattle.coordination.proofs.lemmas.Entries.{belongs_sound}
+use Rattle.worker_notes.proofs.lemmas.Entries.{belongs_sound}
 
 -- The graph and the worker are the same, and the changes say what the worker has, owns and runs afterwards.
 pub record ShowsAfter (old new : Sight) (cs : List Change) : Type 0 where

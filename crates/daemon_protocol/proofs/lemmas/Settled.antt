@@ -82,11 +82,6 @@ fits (tag ∷ after) f m =
     elim (is_tag tag) as (λ b. cond b (look_length tag after) (Refused Tag) ≡ Whole f m → (0 < m) × (m ≤ suc (length after)))
     [ true ↦ fits_length tag m after f | false ↦ λ h. cc ]
 
--- one frame more
-pub cuts_more : (s : List ℕ) (fs : List Frame) (r : List ℕ) (f : Frame) (n : ℕ) → Cuts s fs r → look r ≡ Whole f n → Cuts s (fs ++ f ∷ []) (drop n r)
-cuts_more s _ r f n (nothing _) h = first s f n [] (drop n s) h (nothing (drop n s))
-cuts_more s _ r f n (first _ g m gs _ e later) h = first s g m (gs ++ f ∷ []) (drop n r) e (cuts_more (drop m s) gs r f n later h)
-
 -- what follows changes none of the frames
 pub cuts_longer : (s : List ℕ) (fs : List Frame) (r t : List ℕ) → Cuts s fs r → Cuts (s ++ t) fs (r ++ t)
 cuts_longer s _ r t (nothing _) = nothing (s ++ t)

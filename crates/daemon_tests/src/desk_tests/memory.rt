@@ -3,8 +3,8 @@ use super::ask_twice;
 use crate::asked::{Asked, PLAIN};
 use crate::lines::check;
 use crate::memory_desks::desk;
-use daemon_desk::MemoryDesk;
 use item_actions::KeepAlive;
+use memory_desk::MemoryDesk;
 use std::alloc::{AllocError, Global};
 
 const SESSION: Option<KeepAlive> = Some(KeepAlive::Session);

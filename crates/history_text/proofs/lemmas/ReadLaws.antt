@@ -1,7 +1,7 @@
 -- Reading line by line: what was read so far, and what one more line makes of it.
-use Rattle.std.proofs.Common.{Result, Ok, Err, ◌≡◌, ◌≢◌, ℕ, ◌+◌, ◌<◌, ◌≤◌, List, [], ◌∷◌, ◌++◌, length, length-append, refl, sym, ap, subst, ◌∙◌, append_assoc, append-nil, arith, codes}
+use Rattle.std.proofs.Common.{Result, Ok, Err, ◌≡◌, ℕ, ◌+◌, ◌<◌, List, [], ◌∷◌, ◌++◌, length, length-append, refl, sym, ap, subst, ◌∙◌, append_assoc, append-nil, arith, codes}
 use Rattle.lock_transforms.specs.Entry.{Entry}
-use Rattle.history_text.specs.Text.{numbered, entry_text, end_text}
+use Rattle.history_text.specs.Text.{numbered, entry_text}
 use Rattle.history_text.specs.Fitting.{EntryFits, EntriesFit}
 use Rattle.history_text.proofs.lemmas.Numbering.{numbered-append}
 use Rattle.history_text.specs.declared.read_histories.History.{History}
@@ -10,12 +10,11 @@ use Rattle.history_text.specs.declared.heads.Version.{Version}
 use Rattle.history_text.specs.declared.fails.TextFail.TheVariants.{Stops, NoMemory}
 use Rattle.history_text.specs.declared.read_histories.HistoryLine.{HistoryLine}
 use Rattle.history_text.specs.declared.read_histories.HistoryLine.TheVariants as lines
-use Rattle.std.specs.Prelude.{IsErrAnd}
 use Rattle.history_text.specs.HistoryView.{HistoryView, history_view}
-use Rattle.history_text.specs.Lines.{BeginsWithLine, IsNoFirst, Opens, OpensNone, AddsEntry, Ends, StopsIt, TakesLine, first_line, next_number}
-use Rattle.history_text.specs.Grammar.{HistoryFits, IsHistoryText, StopsAt, IsReadFrom, GivesBack, head_of, lines_of, text_of}
+use Rattle.history_text.specs.Lines.{BeginsWithLine, Opens, AddsEntry, Ends, TakesLine, first_line, next_number}
+use Rattle.history_text.specs.Grammar.{HistoryFits, IsHistoryText, IsReadFrom, GivesBack, head_of, lines_of}
 use Rattle.history_text.proofs.lemmas.LineLaws.{entry_line}
-use Rattle.history_text.proofs.lemmas.TextLaws.{text_parts, head_parts, second_of, one_value, no_history, first_wrong, second_wrong, line_wrong, behind_end}
+use Rattle.history_text.proofs.lemmas.TextLaws.{text_parts, head_parts, second_of, one_value, no_history}
 
 -- the text is the lines of a history so far, and the rest
 pub record ReadSoFar (text : List ℕ) (h : HistoryView) (rest : List ℕ) : Type 0 where
@@ -57,18 +56,6 @@ read_ended {text} {rest} {line} {more} {h} {k} so_far next ended none =
       is = so_far.is ∙ (ap (λ l. lines_of h ++ l) (next.is ∙ (ap (λ l. line ++ l) none ∙ (append-nil line ∙ ended.spelled))) ∙ sym (text_parts h));
     })
 
-pub read_past : {text rest line more : List ℕ} {h k : HistoryView} (n : ℕ) → ReadSoFar text h rest → BeginsWithLine rest line more → Ends h line k → more ≢ [] → n ≡ next_number k → StopsAt text n
-read_past {text} {rest} {line} {more} {h} {k} n so_far next ended some number =
-    let whole : text_of h ++ more ≡ text =
-    ap (λ l. l ++ more) (text_parts h) ∙ (append_assoc (lines_of h) (end_text (length h.entries)) more
-    ∙ (ap (λ l. lines_of h ++ (l ++ more)) (sym ended.spelled) ∙ (ap (λ l. lines_of h ++ l) (sym next.is) ∙ sym so_far.is))) in
-    subst (λ (m : ℕ). StopsAt text m) (sym (number ∙ ap next_number ended.kept)) (subst (λ (t : List ℕ). StopsAt t (next_number h)) whole (behind_end h more so_far.fits some))
-
-pub read_wrong : {text rest line more : List ℕ} {h k : HistoryView} (n : ℕ) → ReadSoFar text h rest → BeginsWithLine rest line more → StopsIt h line k n → StopsAt text n
-read_wrong {text} {rest} {line} {more} {h} {k} n so_far next stopped =
-    let whole : lines_of h ++ (line ++ more) ≡ text = ap (λ l. lines_of h ++ l) (sym next.is) ∙ sym so_far.is in
-    subst (λ (m : ℕ). StopsAt text m) (sym stopped.number) (subst (λ (t : List ℕ). StopsAt t (next_number h)) whole (line_wrong h line more so_far.fits next.line_before stopped.wrong))
-
 pub shorter : {rest line more : List ℕ} {h k : HistoryView} → BeginsWithLine rest line more → AddsEntry h line k → length more < length rest
 shorter {rest} {line} {more} {h} {k} next added =
     let whole = entry_line (next_number h) added.entry in
@@ -86,22 +73,8 @@ opened_so_far v {text} {first} {second} {rest} {more} {h} is one two opens =
       is = head ∙ ap (λ l. l ++ more) (sym (append-nil (head_of h)) ∙ ap (λ es. head_of h ++ numbered entry_text 1 es) (sym opens.no_entries));
     }
 
-pub no_first : {text first rest : List ℕ} → BeginsWithLine text first rest → IsNoFirst first → StopsAt text 0
-no_first {text} {first} {rest} next other = subst (λ (t : List ℕ). StopsAt t 0) (sym next.is) (first_wrong first rest next.line_before other)
-
-pub no_second : (v : Version) {text first rest second more : List ℕ} → BeginsWithLine text first rest → first ≡ first_line v → BeginsWithLine rest second more → OpensNone v second → StopsAt text 0
-no_second v {text} {first} {rest} {second} {more} next is behind none =
-    let whole : first_line v ++ (second ++ more) ≡ text = sym (next.is ∙ (ap (λ l. l ++ rest) is ∙ ap (λ l. first_line v ++ l) behind.is)) in
-    subst (λ (t : List ℕ). StopsAt t 0) whole (second_wrong v second more behind.line_before none)
-
-pub opened : (v : Version) {text first rest second more : List ℕ} {h : HistoryView} → BeginsWithLine text first rest → first ≡ first_line v → BeginsWithLine rest second more → Opens v second h → ReadSoFar text h more
-opened v next is behind opens = opened_so_far v next.is is behind.is opens
-
 pub opened_fits : {v : Version} {line : List ℕ} {h : HistoryView} → Opens v line h → HistoryFits h
 opened_fits opens = record { head = opens.fits; entries = subst EntriesFit (sym opens.no_entries) tt }
-
-pub read_opened : {text more : List ℕ} {h : HistoryView} (r : Result History TextFail) → ReadSoFar text h more → IsReadFrom (lines_of h ++ more) r → IsReadFrom text r
-read_opened r so_far read = subst (λ (t : List ℕ). IsReadFrom t r) (sym so_far.is) read
 
 pub at_start : {h : HistoryView} {rest : List ℕ} → HistoryFits h → ReadSoFar (lines_of h ++ rest) h rest
 at_start fits = record { fits = fits; is = refl }
@@ -109,29 +82,11 @@ at_start fits = record { fits = fits; is = refl }
 abbrev one_taken : HistoryLine → Result HistoryLine TextFail
 one_taken a = Ok a
 
-abbrev one_failed : TextFail → Result HistoryLine TextFail
-one_failed fail = Err fail
-
 pub added_one : {h k : HistoryView} {line : List ℕ} (taken : Result HistoryLine TextFail) (a : HistoryLine) → taken ≡ one_taken a → a ≡ lines.Entry → TakesLine h line k taken → AddsEntry h line k
 added_one {h} {k} {line} taken a was is took = subst (λ (r : Result HistoryLine TextFail). TakesLine h line k r) (was ∙ ap one_taken is) took
 
 pub ended_there : {h k : HistoryView} {line : List ℕ} (taken : Result HistoryLine TextFail) (a : HistoryLine) → taken ≡ one_taken a → a ≡ lines.End → TakesLine h line k taken → Ends h line k
 ended_there {h} {k} {line} taken a was is took = subst (λ (r : Result HistoryLine TextFail). TakesLine h line k r) (was ∙ ap one_taken is) took
-
-abbrev failed_read : TextFail → Result History TextFail
-failed_read fail = Err fail
-
-stopped_read : {text rest line more : List ℕ} {h : HistoryView} (k : HistoryView) (fail : TextFail) → ReadSoFar text h rest → BeginsWithLine rest line more → TakesLine h line k (one_failed fail) → IsReadFrom text (failed_read fail)
-stopped_read k (Stops n) so_far next stopped = read_wrong n so_far next stopped
-stopped_read k NoMemory so_far next kept = tt
-
-handed_on : (text : List ℕ) (r : Result History TextFail) (fail : TextFail) → IsErrAnd r (λ f. f ≡ fail) → IsReadFrom text (failed_read fail) → IsReadFrom text r
-handed_on text (Ok h) fail never read = absurd never
-handed_on text (Err f) fail is read = subst (λ (f : TextFail). IsReadFrom text (failed_read f)) (sym is) read
-
-pub failed_there : {text rest line more : List ℕ} {h : HistoryView} (k : HistoryView) (taken : Result HistoryLine TextFail) (fail : TextFail) (r : Result History TextFail) → ReadSoFar text h rest → BeginsWithLine rest line more → taken ≡ one_failed fail → TakesLine h line k taken → IsErrAnd r (λ f. f ≡ fail) → IsReadFrom text r
-failed_there {text} {rest} {line} {more} {h} k taken fail r so_far next was took is =
-    handed_on text r fail is (stopped_read k fail so_far next (subst (λ (x : Result HistoryLine TextFail). TakesLine h line k x) was took))
 
 pub given_back : (text : List ℕ) (h : HistoryView) (r : Result History TextFail) → IsHistoryText text h → IsReadFrom text r → GivesBack h r
 given_back text h (Ok k) is read = one_value text (history_view k) h read is

@@ -1,12 +1,9 @@
 -- A text is split at its first line end in one way.
-use Rattle.std.proofs.Common.{◌≡◌, ◌≢◌, ℕ, ◌+◌, ◌<◌, ◌≤◌, suc, zero, List, [], ◌∷◌, ◌++◌, length, take, drop, Option, Some, None, Bool, true, false, not, ◌&&◌, refl, sym, ap, subst, ◌∙◌, append_assoc, append-nil, arith, codes, nat_eq, cond, inl, inr, ◌⊎◌}
-use Rattle.std.specs.List.{list_all}
+use Rattle.std.proofs.Common.{◌≡◌, ◌≢◌, ℕ, ◌+◌, ◌≤◌, suc, zero, List, [], ◌∷◌, ◌++◌, length, take, Bool, true, false, not, refl, sym, ap, subst, ◌∙◌, append_assoc, append-nil, arith, codes, nat_eq, inl, inr}
 use Rattle.std.proofs.lemmas.Bool.{and_from, and_parts, true≢false}
 use Rattle.std.proofs.lemmas.List.Folds.{list_all-append}
-use Rattle.std.proofs.lemmas.Bool.{eqb-true}
-use Rattle.std.proofs.lemmas.List.{take_more, take_all, take-append-drop}
-use Rattle.memchr.specs.Find.{Nowhere, NoneBefore, Passes, is_byte}
-use Rattle.history_text.specs.Lines.{is_unbroken, IsLine, IsLineBefore, BeginsWithLine}
+use Rattle.memchr.specs.Find.{Nowhere, Passes, is_byte}
+use Rattle.history_text.specs.Lines.{is_unbroken, IsLine, IsLineBefore}
 
 pub joined : (xs ys : List ℕ) → is_unbroken xs ≡ true → is_unbroken ys ≡ true → is_unbroken (xs ++ ys) ≡ true
 joined xs ys a b = list_all-append (λ b. not (nat_eq b 10)) xs ys ∙ and_from _ _ a b
@@ -60,22 +57,3 @@ unbroken_before (c ∷ text) (suc k) none within = at (nat_eq c 10) refl (unbrok
     at : (b : Bool) → nat_eq c 10 ≡ b → is_unbroken (take k text) ≡ true → is_unbroken (c ∷ take k text) ≡ true
     at true s more = absurd (none 0 (omega arith) (omega arith) s)
     at false s more = and_from _ _ (ap not s) more
-
-pub split_there : (text front rest : List ℕ) (k : ℕ) → NoneBefore (Passes (is_byte 10) text) 0 (length text) k × Passes (is_byte 10) text k
-    → front ≡ take (k + 1) text → rest ≡ drop (k + 1) text → BeginsWithLine text front rest
-split_there text front rest k found is behind =
-    let within : k < length text = found.0.high in
-    record {
-      is = sym (take-append-drop (k + 1) text) ∙ (ap (λ l. l ++ drop (k + 1) text) (sym is) ∙ ap (λ l. front ++ l) (sym behind));
-      line_before = inl (record {
-        front = take k text;
-        unbroken = unbroken_before text k found.0.before (omega arith);
-        is = is ∙ (take_more text k 0 found.0.high ∙ ap (λ b. take k text ++ b ∷ []) (eqb-true _ 10 found.1));
-      });
-    }
-
-pub split_nowhere : (text : List ℕ) → Nowhere (Passes (is_byte 10) text) 0 (length text) → BeginsWithLine text text []
-split_nowhere text none = record {
-  is = sym (append-nil text);
-  line_before = inr (subst (λ (l : List ℕ). is_unbroken l ≡ true) (take_all (length text) text (omega arith)) (unbroken_before text (length text) none (omega arith)), refl);
-}

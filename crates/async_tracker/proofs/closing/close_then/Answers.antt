@@ -1,5 +1,5 @@
 use Rattle.std.proofs.Common.{Err, Ok, ap, ◌∙◌}
-use Rattle.coordination.specs.Offered.{AreTold, AsTold, WaitsAsTold}
+use Rattle.worker_notes.specs.Offered.{AreTold, AsTold, WaitsAsTold}
 use Rattle.coordination.specs.declared.halts.Halt.{Halt}
 use Rattle.async_tracker.proofs.AfterClosing.{ClosesThen, closed_then, decided_behind, decided_later, err_behind, if_no_memory, if_undecided, ok_behind}
 use Rattle.async_tracker.proofs.Claiming.{close_never_waits}

@@ -1,5 +1,5 @@
 use Rattle.std.proofs.Common.{inl, inr, rules}
-use Rattle.coordination.specs.Offered.{AreTold, AsTold, WaitsAsTold}
+use Rattle.worker_notes.specs.Offered.{AreTold, AsTold, WaitsAsTold}
 use Rattle.coordination.proofs.lemmas.Shown.{looked_shows, stopped_for, stopped_shows}
 use Rattle.async_tracker.proofs.AfterEnding.{decided_behind, decided_later, ended_then, if_no_memory, if_undecided, kept_later}
 use Rattle.async_tracker.proofs.TaskSteps.{cannot_end, ended_shows}

@@ -1,6 +1,6 @@
 use Rattle.std.proofs.Common.{Ok, inr, rules, ap, ◌∙◌}
 use Rattle.coordination.proofs.lemmas.Shown.{looked_shows, stopped_for, stopped_shows}
-use Rattle.coordination.specs.Offered.{AreTold}
+use Rattle.worker_notes.specs.Offered.{AreTold}
 use Rattle.coordination.specs.declared.decisions.Decided.TheVariants as decided
 use Rattle.coordination.specs.declared.decisions.Followed.TheVariants as followed
 use Rattle.async_tracker.proofs.lemmas.After.{halted, on_err}

@@ -1,6 +1,6 @@
 use Rattle.std.proofs.Common.{◌≡◌, ℕ}
 use Rattle.lock_journal.specs.Names.{WorkerId, BookView}
-use Rattle.coordination.specs.Offered.{AsTold}
+use Rattle.worker_notes.specs.Offered.{AsTold}
 use Rattle.coordination.specs.declared.decisions.Decided.{Decided}
 use Rattle.coordination.specs.declared.rule.Sight.{Sight}
 use Rattle.async_tracker.specs.NextWork.{IsNextWorkIf, next_of}

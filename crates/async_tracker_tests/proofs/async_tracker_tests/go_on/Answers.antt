@@ -1,4 +1,4 @@
-use Rattle.async_tracker.proofs.lemmas.After.{from_ok}
+use Rattle.single_steps.proofs.lemmas.After.{from_ok}
 use Rattle.async_tracker_tests.proofs.Helping.{can_end}
 use Rattle.async_tracker_tests.proofs.async_tracker_tests.go_on.Goals as goal
 

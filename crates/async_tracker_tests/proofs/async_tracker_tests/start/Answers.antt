@@ -1,7 +1,7 @@
 use Rattle.std.proofs.Common.{◌<◌, Ok, [], ◌∷◌, length, true, arith, sym, ap, ◌∙◌, subst}
 use Rattle.lock_journal.specs.Names.{GraphView, task_of, TaskOf}
 use Rattle.coordination.specs.Shown.{Shows}
-use Rattle.async_tracker.proofs.lemmas.After.{ok_is}
+use Rattle.single_steps.proofs.lemmas.After.{ok_is}
 use Rattle.async_tracker_tests.proofs.async_tracker_tests.start.Goals as goal
 
 pub start_task-requires-clause-in_range : goal.start_task-requires-clause-in_range

@@ -2,7 +2,7 @@ use Rattle.std.proofs.Common.{rules, sym, subst}
 use Rattle.coordination.proofs.lemmas.Shown.{answered_shows}
 use Rattle.async_tracker.specs.ParkedView.{ParkedView}
 use Rattle.async_tracker_tests.specs.TwoItems.{CanHelp}
-use Rattle.async_tracker.proofs.lemmas.After.{from_ok}
+use Rattle.single_steps.proofs.lemmas.After.{from_ok}
 use Rattle.async_tracker_tests.proofs.Helping.{helps_still}
 use Rattle.async_tracker_tests.proofs.async_tracker_tests.try_too_early.Goals as goal
 

@@ -1,6 +1,6 @@
 use Rattle.std.proofs.Common.{Err, ap, sym, subst, ◌∙◌}
 use Rattle.lock_journal.specs.Names.{GraphView, UnitOf}
-use Rattle.coordination.specs.Offered.{AsTold, WaitsAsTold}
+use Rattle.worker_notes.specs.Offered.{AsTold, WaitsAsTold}
 use Rattle.coordination.proofs.lemmas.Shown.{looked_shows}
 use Rattle.async_tracker.specs.Shows.{IsItemHere}
 use Rattle.coordination_tests.proofs.Agreeing.{NothingTold}

@@ -1,5 +1,5 @@
 use Rattle.std.proofs.Common.{◌≡◌, take}
-use Rattle.file_access.specs.Folders.{folder_of}
+use Rattle.memory_files.specs.Folders.{folder_of}
 use Rattle.case_files.proofs.desks.copies_of.Given as goal
 
 -- the files so far are copied

@@ -1,8 +1,8 @@
 use Rattle.std.proofs.Common.{◌≡◌, length}
 use Rattle.std.specs.Prelude.{IfSome}
 use Rattle.std.specs.List.{All}
-use Rattle.file_access.specs.Folders.{folder_of}
-use Rattle.daemon_desk.specs.MemoryDeskView.{MemoryDeskView, known_files}
+use Rattle.memory_files.specs.Folders.{folder_of}
+use Rattle.memory_desk.specs.MemoryDeskView.{MemoryDeskView, known_files}
 use Rattle.case_files.proofs.desks.desks_of.Given as goal
 
 -- as many desks as turns, and each that knows its files has these

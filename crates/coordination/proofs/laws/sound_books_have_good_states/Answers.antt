@@ -2,7 +2,7 @@ use Rattle.std.proofs.Common.{sym, subst}
 use Rattle.resource_lock.proofs.lemmas.Runs.{worker_from}
 use Rattle.lock_journal.specs.Own.{NamesWorkers}
 use Rattle.lock_journal.proofs.lemmas.Named.{named}
-use Rattle.coordination.proofs.lemmas.Entries.{belongs_sound, good_sound}
+use Rattle.worker_notes.proofs.lemmas.Entries.{belongs_sound, good_sound}
 use Rattle.coordination.proofs.laws.sound_books_have_good_states.Goals as goal
 
 pub returns-clause-good : goal.returns-clause-good

@@ -1,5 +1,5 @@
 use Rattle.lock_transforms.specs.Entry.{replay}
-use Rattle.coordination.proofs.lemmas.FewMarks.{few_claimed, keeps}
+use Rattle.worker_notes.proofs.lemmas.FewMarks.{few_claimed, keeps}
 use Rattle.coordination.proofs.laws.workers_run_few_marks.Goals as goal
 
 pub returns-clause-each : goal.returns-clause-each

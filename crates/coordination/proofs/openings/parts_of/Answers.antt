@@ -1,7 +1,7 @@
 use Rattle.std.proofs.Common.{◌≡◌, ◌+◌, ◌∷◌, [], ℕ, List, sym, ap, ◌∙◌, subst, arith, length, length-append}
-use Rattle.coordination.specs.Parts.{ArePartsFrom, IsPartOf}
-use Rattle.coordination.specs.declared.parts.WorkerPart.{WorkerPart}
-use Rattle.coordination.proofs.lemmas.Nothing.{fresh_part, parts_push}
+use Rattle.worker_notes.specs.Parts.{ArePartsFrom, IsPartOf}
+use Rattle.worker_notes.specs.declared.parts.WorkerPart.{WorkerPart}
+use Rattle.worker_notes.proofs.lemmas.Nothing.{fresh_part, parts_push}
 use Rattle.coordination.proofs.openings.parts_of.Goals as goal
 
 pub loop-worker-preserved : goal.loop-worker-preserved

@@ -1,6 +1,6 @@
 -- the parts of the workers so far
 use Rattle.std.proofs.Common.{◌≡◌, length}
-use Rattle.coordination.specs.Parts.{ArePartsFrom}
+use Rattle.worker_notes.specs.Parts.{ArePartsFrom}
 use Rattle.coordination.proofs.openings.parts_of.Given as goal
 
 abbrev pub invariant-loop-worker : goal.invariant-loop-worker

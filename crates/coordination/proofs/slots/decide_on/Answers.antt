@@ -1,6 +1,6 @@
 use Rattle.std.proofs.Common.{◌∙◌, Bool, subst, sym}
 use Rattle.lock_journal.specs.BookView.{BookView}
-use Rattle.coordination.specs.Offered.{AnswersWith, WaitsWith}
+use Rattle.worker_notes.specs.Offered.{AnswersWith, WaitsWith}
 use Rattle.coordination.proofs.TurnKinds.{stepless_left, stepped_left, undecided_left}
 use Rattle.coordination.proofs.slots.decide_on.Goals as goal
 

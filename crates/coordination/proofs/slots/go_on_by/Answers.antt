@@ -1,8 +1,8 @@
 use Rattle.std.proofs.Common.{◌<◌, length, subst, sym}
 use Rattle.lock_journal.specs.Names.{BookView, Kind}
-use Rattle.coordination.specs.Parts.{Follows, IsPartOf}
+use Rattle.worker_notes.specs.Parts.{Follows, IsPartOf}
 use Rattle.worker_choices.specs.GoingOn.{last_lets_go_on}
-use Rattle.coordination.specs.SleepAndWake.{EndsHold, GoesOn, has_entered, stance_after}
+use Rattle.worker_notes.specs.SleepAndWake.{EndsHold, GoesOn, has_entered, stance_after}
 use Rattle.coordination.proofs.TakenBooks.{entry_kept, follows}
 use Rattle.coordination.proofs.slots.go_on_by.Goals as goal
 

@@ -1,7 +1,7 @@
 use Rattle.std.proofs.Common.{◌≤◌, ℕ, length, rules, arith}
 use Rattle.lock_journal.specs.Names.{BookView, last_changes, locks_gained}
 use Rattle.coordination.proofs.PassSteps.{room_for_fewer}
-use Rattle.coordination.proofs.lemmas.LocksOnTheWay.{gained_by_fewer}
+use Rattle.worker_notes.proofs.lemmas.LocksOnTheWay.{gained_by_fewer}
 use Rattle.coordination.proofs.TakenBooks.{ran_of}
 use Rattle.coordination.proofs.slots.run_with_room.Goals as goal
 

@@ -1,7 +1,7 @@
 use Rattle.std.proofs.Common.{◌≡◌, ◌<◌, length, rules}
 use Rattle.blocking_section.specs.Sections.{IsGivenBackBy}
 use Rattle.blocking_section.proofs.lemmas.Stays.{given_back_stays}
-use Rattle.coordination.specs.Offered.{AsTold, WaitsAsTold}
+use Rattle.worker_notes.specs.Offered.{AsTold, WaitsAsTold}
 use Rattle.coordination_tests.proofs.Agreeing.{NothingTold, ask_agrees}
 use Rattle.coordination_tests.proofs.blocking_section_tests.leaves.Goals as goal
 

@@ -2,9 +2,9 @@ use Rattle.std.proofs.Common.{rules, ◌≡◌, Bool, Result, Ok, Err, false, re
 use Rattle.coordination.specs.Attempts.{HasRunFirst, HasRunOn}
 use Rattle.lock_transforms.specs.declared.transforms.Disposition.{Disposition}
 use Rattle.lock_transforms.specs.declared.transforms.Disposition.TheVariants.{Finished, Failed, Retry}
-use Rattle.coordination.specs.SleepAndWake.{begun, noted_after}
-use Rattle.coordination.specs.declared.sleepers.Sleepers.{Sleepers}
-use Rattle.coordination.specs.declared.sleepers.Then.TheVariants.{Leaves}
+use Rattle.worker_notes.specs.SleepAndWake.{begun, noted_after}
+use Rattle.worker_notes.specs.declared.sleepers.Sleepers.{Sleepers}
+use Rattle.worker_notes.specs.declared.sleepers.Then.TheVariants.{Leaves}
 use Rattle.coordination.proofs.guarded.Guarded.run_first.Goals as goal
 use Rattle.coordination.proofs.guarded.Guarded.run_first.Goals.{in-Ok-Retry, in_default, in_default-2, else-caller-via-then-caller+else-matches, else-caller-via-else-caller}
 

@@ -2,7 +2,7 @@ use Rattle.std.proofs.Common.{subst}
 use Rattle.ready_work.specs.Choices.{has_queued}
 use Rattle.lock_journal.specs.BookView.{BookView}
 use Rattle.coordination.specs.Planned.{TellsOwn}
-use Rattle.coordination.specs.SleepAndWake.{AreQuiet, EndsTurn}
+use Rattle.worker_notes.specs.SleepAndWake.{AreQuiet, EndsTurn}
 use Rattle.coordination.proofs.Quiet.{quiet_turn}
 use Rattle.coordination.proofs.planned.Planned.act.Goals as goal
 

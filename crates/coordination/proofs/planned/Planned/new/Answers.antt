@@ -1,8 +1,8 @@
 use Rattle.std.proofs.Common.{List, inr, subst, sym}
 use Rattle.ready_work.specs.Choices.{has_queued}
 use Rattle.worker_choices.specs.declared.stances.Stance.{Stance}
-use Rattle.coordination.specs.SleepAndWake.{AreQuiet}
-use Rattle.coordination.proofs.Sleeping.{none_sleeps}
+use Rattle.worker_notes.specs.SleepAndWake.{AreQuiet}
+use Rattle.worker_notes.proofs.Sleeping.{none_sleeps}
 use Rattle.coordination.proofs.planned.Planned.new.Goals as goal
 
 -- all are away, so nobody sleeps

@@ -1,5 +1,5 @@
 use Rattle.std.proofs.lemmas.Result.{IfOk-weaker}
-use Rattle.coordination.specs.Offered.{AreTold, AsTold}
+use Rattle.worker_notes.specs.Offered.{AreTold, AsTold}
 use Rattle.coordination.proofs.Calls.{is_answered}
 use Rattle.coordination.proofs.services.Coordination.ask.Goals as goal
 

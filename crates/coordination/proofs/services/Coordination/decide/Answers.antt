@@ -1,5 +1,5 @@
 use Rattle.std.proofs.lemmas.Result.{IfOk-weaker}
-use Rattle.coordination.specs.Offered.{AreTold, AsTold}
+use Rattle.worker_notes.specs.Offered.{AreTold, AsTold}
 use Rattle.coordination.proofs.Calls.{has_decided}
 use Rattle.coordination.proofs.services.Coordination.decide.Goals as goal
 

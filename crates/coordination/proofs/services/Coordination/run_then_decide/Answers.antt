@@ -1,5 +1,5 @@
 use Rattle.std.proofs.lemmas.Result.{IfOk-weaker}
-use Rattle.coordination.specs.Offered.{AreTold, AsTold, WaitsAsTold}
+use Rattle.worker_notes.specs.Offered.{AreTold, AsTold, WaitsAsTold}
 use Rattle.coordination.proofs.Calls.{has_followed, was_stopped}
 use Rattle.coordination.proofs.services.Coordination.run_then_decide.Goals as goal
 

@@ -8,7 +8,7 @@ use Rattle.coordination.specs.Names.{ArePartsFrom, IsPartOf, PassView, ServiceId
 use Rattle.coordination.specs.declared.rule.Sight.{Sight}
 use Rattle.coordination.specs.declared.rule.SeatView.{SeatView}
 use Rattle.std.specs.Vec.Iter.{into_iter_items}
-use Rattle.coordination.specs.declared.parts.WorkerPart.{WorkerPart}
+use Rattle.worker_notes.specs.declared.parts.WorkerPart.{WorkerPart}
 use Rattle.history_views.specs.Growing.{ReachView}
 use Rattle.history_views.specs.ShownBooks.{IsTold}
 use Rattle.coordination.proofs.PassSteps.{at_badge, badge_is}

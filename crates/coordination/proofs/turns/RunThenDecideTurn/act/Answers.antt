@@ -1,11 +1,11 @@
 use Rattle.std.proofs.Common.{Bool, ap, false, inl, inr, refl, ◌∙◌, subst, sym}
 use Rattle.resource_lock.specs.declared.ids.WorkerId.{WorkerId}
 use Rattle.coordination.specs.Names.{DecideGives, HadStep, AreTold, AsTold, WaitsAsTold, FollowGives, HasLeft, awaits_if, HasWoken}
-use Rattle.coordination.specs.Parts.{IsPartHere}
+use Rattle.worker_notes.specs.Parts.{IsPartHere}
 use Rattle.coordination.specs.declared.turns.Came.TheVariants as came
-use Rattle.coordination.specs.SleepAndWake.{IsAwake}
-use Rattle.coordination.specs.declared.sleepers.Then.{Then}
-use Rattle.coordination.specs.declared.sleepers.Then.TheVariants.{Leaves}
+use Rattle.worker_notes.specs.SleepAndWake.{IsAwake}
+use Rattle.worker_notes.specs.declared.sleepers.Then.{Then}
+use Rattle.worker_notes.specs.declared.sleepers.Then.TheVariants.{Leaves}
 use Rattle.coordination.proofs.Awake.{decided_awake, stopped_awake}
 use Rattle.coordination.proofs.TurnKinds.{Anything, Retries, again_left, failed_left, finished_of, followed_left, left_as_told, memory_left, not_again, not_failed, not_without_memory, part_again, unfinished_of}
 use Rattle.coordination.proofs.Woken.{decided_woken, gone_on, stopped_woken}

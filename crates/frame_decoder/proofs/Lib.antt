@@ -1,0 +1,4 @@
+mod Fronts
+mod OneReading
+mod Pushing
+mod Readings

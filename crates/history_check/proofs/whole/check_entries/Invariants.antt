@@ -1,8 +1,0 @@
-use Rattle.history_text.specs.HistoryView.{history_view}
-use Rattle.history_check.specs.CheckView.{IsCheckOf}
-use Rattle.history_check.proofs.OneByOne.{first_of}
-use Rattle.history_check.proofs.whole.check_entries.Given as goal
-
--- the check is that of the entries so far
-abbrev pub invariant-loop-entry : goal.invariant-loop-entry
-invariant-loop-entry g l = IsCheckOf l.plan (first_of l.entry-index (history_view l.history)) l.check

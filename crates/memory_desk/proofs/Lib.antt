@@ -1,0 +1,2 @@
+mod Honesty
+mod Told

@@ -1,0 +1,2 @@
+pub mod MemoryDeskView
+pub mod Replies

@@ -1,0 +1,3 @@
+pub mod After
+pub mod Resumed
+pub mod Turns

@@ -1,0 +1,4 @@
+mod Agreeing
+mod OneByOne
+mod Reading
+mod Splitting

@@ -1,0 +1,9 @@
+pub mod WorkerEntries
+pub mod Agrees
+pub mod Offered
+pub mod Orders
+pub mod SortedLists
+pub mod FewMarks
+pub mod Parts
+pub mod SleepAndWake
+pub mod Names
